@@ -1,0 +1,3 @@
+//! Stand-in for the crate softaes, with the table round.
+
+pub use rounds::table::{Block, SoftAesFast};

@@ -1,0 +1,3 @@
+-- Laws of the draft's AEGIS-128L.
+pub mod Steps
+pub mod OneBlock

@@ -1,0 +1,11 @@
+-- Each case of the table gives what it must, by computation of the definitions.
+-- Assumes nothing.
+use mathlib.Core.Path.{_≡_, refl}
+use mathlib.Core.List.{map}
+use Rattle.aes.specs.Field.{xtime, mulBits, mul, inv, affine, sbox}
+use Rattle.aes.specs.Round.{mixed, roundOf}
+use Rattle.cases.specs.Cases.{cases}
+
+pub hold : map (λ c. c .gives) cases ≡ map (λ c. c .must) cases
+unfolding xtime mulBits mul inv affine sbox mixed roundOf
+hold = refl
