@@ -1,3 +1,4 @@
 -- Laws of the draft's AEGIS-128L.
 pub mod Steps
 pub mod OneBlock
+pub mod Tags

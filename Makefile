@@ -1,0 +1,39 @@
+# Wodzerim. `make test` is all that CI runs; README.md says what each target is for.
+# Everything that is built for others stands in build/, which is never committed.
+.PHONY: test run lib hub compare bench examples fmt toolchain clean
+.DELETE_ON_ERROR:
+
+RT ?= rt
+HUB_SAMPLE = examples/record.bin
+
+# rt ci comes last, so that its 'N passed, 0 failed' is the last line. It proves every crate from nothing.
+test: toolchain
+	@sh scripts/test.sh
+
+# Builds the hub program and opens the sample record, as a new user would.
+run: hub
+	./build/hub < $(HUB_SAMPLE)
+
+lib: toolchain
+	@sh scripts/lib.sh
+
+hub: toolchain
+	@sh scripts/hub.sh
+
+compare: lib hub
+	compare/run.sh all build/hub crates/vectors/stdin
+
+bench: lib
+	compare/run.sh bench
+
+examples: lib
+	examples/run.sh
+
+fmt: toolchain
+	$(RT) fmt
+
+toolchain:
+	@command -v $(RT) >/dev/null || { echo "make: the Rattle toolchain's command '$(RT)' is not on the path. With it, '$(RT) doc' names the guide to read first; RT=/path/to/rt names it elsewhere." >&2; exit 1; }
+
+clean:
+	rm -rf build target
