@@ -1,23 +1,14 @@
 -- The steps of the draft's definitions, from what the calls of a step give: what the code of a step cites.
 -- Assumes nothing.
 use Prim.Native.Nat.{ℕ, zero, suc, _+_, _-_, _≤_, _<_}
-use mathlib.Core.Path.{_≡_, refl, sym, ap, ap₂, _∙_}
-use mathlib.Core.List.{List, [], _∷_, _++_}
+use mathlib.Core.Path.{_≡_, refl, sym, ap, _∙_}
+use mathlib.Core.List.{List, [], _∷_}
 use native.Mathlib.Omega.{arith}
-use lib.ListN.{length, getD, take, drop, length-drop}
+use lib.ListN.{length, take, drop, length-drop}
 use lib.Seq.{take-all, getD-drop}
-use Rattle.aes.specs.Round.{block, blockAt, roundOf, xorOf, andOf}
+use Rattle.aes.specs.Round.{block, blockAt, xorOf, andOf}
 use Rattle.aegis128l.specs.Aegis128L.{Blocks, S, c0, c1, update, updates, absorb, keystream, loaded, init}
 use Rattle.aegis128l.specs.View.{joined}
-
-pub updated : (s : Blocks) (a b : List ℕ) {p q r0 r1 r2 r3 r4 r5 r6 r7 : List ℕ}
-    → p ≡ roundOf (S s 7) (S s 0) → r0 ≡ xorOf p a
-    → r1 ≡ roundOf (S s 0) (S s 1) → r2 ≡ roundOf (S s 1) (S s 2) → r3 ≡ roundOf (S s 2) (S s 3)
-    → q ≡ roundOf (S s 3) (S s 4) → r4 ≡ xorOf q b
-    → r5 ≡ roundOf (S s 4) (S s 5) → r6 ≡ roundOf (S s 5) (S s 6) → r7 ≡ roundOf (S s 6) (S s 7)
-    → _≡_ {A = Blocks} (r0 ∷ r1 ∷ r2 ∷ r3 ∷ r4 ∷ r5 ∷ r6 ∷ r7 ∷ []) (update s a b)
-unfolding update
-updated s a b ep e0 e1 e2 e3 eq e4 e5 e6 e7 = cc
 
 -- ---- many updates: i of n are done, and the state is s
 

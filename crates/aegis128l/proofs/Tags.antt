@@ -1,11 +1,11 @@
 -- The tag: the length block, the last updates and the tag of either size, from what the calls of a step give.
 -- Assumes nothing.
 use Prim.Native.Nat.{ℕ, _*_}
-use mathlib.Core.Path.{_≡_, refl, sym, ap, _∙_}
-use mathlib.Core.Bool.{Bool, true, false}
-use mathlib.Core.List.{List, [], _∷_, _++_}
+use mathlib.Core.Path.{_≡_, sym, ap, _∙_}
+use mathlib.Core.Bool.{Bool, true}
+use mathlib.Core.List.{List, _++_}
 use lib.Dec.{eqb}
-use lib.ListN.{length, getD}
+use lib.ListN.{length}
 use Rattle.answers.specs.Answers.{tagSize}
 use Rattle.aes.specs.Round.{xorOf}
 use Rattle.lent.specs.Lent.{over}
@@ -14,13 +14,9 @@ use Rattle.aegis128l.specs.Aegis128L.{Blocks, S, updates, le64, lengthBl
 use Rattle.aegis128l.specs.Cipher.{tag-length}
 use Rattle.aegis128l.specs.View.{joined}
 
--- the first eight bytes of a list
-abbrev eight : List ℕ → List ℕ
-eight x = getD x 0 0 ∷ getD x 1 0 ∷ getD x 2 0 ∷ getD x 3 0 ∷ getD x 4 0 ∷ getD x 5 0 ∷ getD x 6 0 ∷ getD x 7 0 ∷ []
-
-pub lengths-joined : (a b : ℕ) {x y : List ℕ} → x ≡ le64 (a * 8) → y ≡ le64 (b * 8) → eight x ++ eight y ≡ lengthBlock a b
+pub lengths-joined : (a b : ℕ) {x y l : List ℕ} → x ≡ le64 (a * 8) → y ≡ le64 (b * 8) → l ≡ x ++ y → l ≡ lengthBlock a b
 unfolding lengthBlock
-lengths-joined a b ex ey = (λ i. eight (ex i) ++ eight (ey i))
+lengths-joined a b ex ey el = el ∙ (λ i. ex i ++ ey i)
 
 pub finished : (s : Blocks) (a b : ℕ) {l x : List ℕ} {r : Blocks}
     → l ≡ lengthBlock a b → x ≡ xorOf (S s 2) l → r ≡ updates 7 s x x → r ≡ finalized s a b

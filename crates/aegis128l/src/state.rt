@@ -9,43 +9,9 @@ ghost use Rattle.aegis128l.specs.Aegis128L as draft;
 ghost use Rattle.aegis128l.specs.View.{stateOf, modeOf, joined};
 use aes::AesBlock;
 
-const C0: [u8; 16] = [
-    0x00,
-    0x01,
-    0x01,
-    0x02,
-    0x03,
-    0x05,
-    0x08,
-    0x0d,
-    0x15,
-    0x22,
-    0x37,
-    0x59,
-    0x90,
-    0xe9,
-    0x79,
-    0x62,
-];
+const C0: [u8; 16] = *b"\x00\x01\x01\x02\x03\x05\x08\x0d\x15\x22\x37\x59\x90\xe9\x79\x62";
 
-const C1: [u8; 16] = [
-    0xdb,
-    0x3d,
-    0x18,
-    0x55,
-    0x6d,
-    0xc2,
-    0x2f,
-    0xf1,
-    0x20,
-    0x11,
-    0x31,
-    0x42,
-    0x73,
-    0xb5,
-    0x28,
-    0xdd,
-];
+const C1: [u8; 16] = *b"\xdb\x3d\x18\x55\x6d\xc2\x2f\xf1\x20\x11\x31\x42\x73\xb5\x28\xdd";
 
 #[repr(C)]
 pub struct State {
@@ -56,58 +22,27 @@ pub struct State {
 pub fn join(a: [u8; 16], b: [u8; 16]) -> [u8; 32]
     ensures { λ r. ⌜ r ≡ joined a b ⌝ }
 {
-    [
-        a[0],
-        a[1],
-        a[2],
-        a[3],
-        a[4],
-        a[5],
-        a[6],
-        a[7],
-        a[8],
-        a[9],
-        a[10],
-        a[11],
-        a[12],
-        a[13],
-        a[14],
-        a[15],
-        b[0],
-        b[1],
-        b[2],
-        b[3],
-        b[4],
-        b[5],
-        b[6],
-        b[7],
-        b[8],
-        b[9],
-        b[10],
-        b[11],
-        b[12],
-        b[13],
-        b[14],
-        b[15],
-    ]
+    let mut bytes = [0; 32];
+    for i in 0..16 {
+        bytes[i] = a[i];
+        bytes[i + 16] = b[i];
+    }
+    bytes
 }
 
 impl State {
-    // All from old values.
+    // All from old values: a round for each block, whose input is the block before it, and for the first block the last.
     pub fn update(self, a: AesBlock, b: AesBlock, t: &[u8; 256]) -> State
         requires { ⌜ Table (now t) ⌝ }
         ensures { λ r. ⌜ stateOf r ≡ draft.update (stateOf self) (a .bytes) (b .bytes) ⌝ }
     {
         let s = self.blocks;
-        let s0 = s[7].round(s[0], t).xor(a);
-        let s1 = s[0].round(s[1], t);
-        let s2 = s[1].round(s[2], t);
-        let s3 = s[2].round(s[3], t);
-        let s4 = s[3].round(s[4], t).xor(b);
-        let s5 = s[4].round(s[5], t);
-        let s6 = s[5].round(s[6], t);
-        let s7 = s[6].round(s[7], t);
-        let n = [s0, s1, s2, s3, s4, s5, s6, s7];
+        let mut n = s;
+        for i in 0..8 {
+            n[i] = s[(i + 7) % 8].round(s[i], t);
+        }
+        n[0] = n[0].xor(a);
+        n[4] = n[4].xor(b);
         State { blocks: n }
     }
 
@@ -173,7 +108,9 @@ impl State {
     pub fn block(self, decrypt: bool, part: &mut [u8], t: &[u8; 256]) -> State
         requires { ⌜ Table (now t) ⌝ }
         requires { ⌜ length (now part) ≡ 32 ⌝ }
-        ensures { λ r. ⌜ (stateOf r ≡ draft.absorb (stateOf self) (plain (modeOf decrypt) (now (part .entry)) (xors (now (part .entry)) (draft.keystream (stateOf self))))) × (now (part .exit) ≡ xors (now (part .entry)) (draft.keystream (stateOf self))) ⌝ }
+        ensures { λ r. ⌜ (stateOf r
+            ≡ draft.absorb (stateOf self) (plain (modeOf decrypt) (now (part .entry)) (xors (now (part .entry)) (draft.keystream (stateOf self)))))
+            × (now (part .exit) ≡ xors (now (part .entry)) (draft.keystream (stateOf self))) ⌝ }
     {
         let z = self.keystream();
         if decrypt {

@@ -33,26 +33,12 @@ fn length_block(a: u64, b: u64) -> AesBlock
 {
     let x = le64(a * 8);
     let y = le64(b * 8);
-    AesBlock {
-        bytes: [
-            x[0],
-            x[1],
-            x[2],
-            x[3],
-            x[4],
-            x[5],
-            x[6],
-            x[7],
-            y[0],
-            y[1],
-            y[2],
-            y[3],
-            y[4],
-            y[5],
-            y[6],
-            y[7],
-        ],
+    let mut bytes = [0; 16];
+    for i in 0..8 {
+        bytes[i] = x[i];
+        bytes[i + 8] = y[i];
     }
+    AesBlock { bytes: bytes }
 }
 
 impl State {

@@ -10,4 +10,13 @@ returns c =
     absorbed _ _ _ _ _ (c .before .before .before .from-part .ensures) (c .before .from-part2 .ensures) (c .update .ensures)
 
 pub absorb-spec : {M : Type 1} → statement M
-absorb-spec = tie.close (tie.spec (λ c κs. search needs) (λ c. search needs) (λ c. search needs) (λ c. search needs) (λ c κs. search needs) (λ c κs. search needs) returns)
+absorb-spec =
+    tie.close
+    (tie.spec
+    (λ c κs. search needs)
+    (λ c. search needs)
+    (λ c. search needs)
+    (λ c. search needs)
+    (λ c κs. search needs)
+    (λ c κs. search needs)
+    returns)

@@ -1,59 +1,56 @@
--- `State::update` meets its contract: eight rounds and two xors, all from old values.
+-- `State::update` meets its contract: a round for each block, all from old values, and two xors.
 -- Assumes nothing.
+use Prim.Native.Nat.{_-_}
+use mathlib.Core.Path.{_≡_}
+use native.Mathlib.Omega.{arith}
 use borrow.Author.Needs.{needs}
-use Rattle.aegis128l.proofs.Steps.{updated}
+use lib.ListN.{length, length-map}
+use Rattle.aegis128l.proofs.Rounds.{Rounds, begun, turned, updated}
 use Rattle.aegis128l.proofs.state.State.update.Statement.{statement}
 use Rattle.aegis128l.proofs.state.State.update.Tie as tie
 
-round-requires-6 : tie.Need-round-requires-6
-round-requires-6 c κs = c .before .before .before .before .before .before .before .before .before .before .before .before .before .before .before .before .before .before .before .before .pre
+abbrev Inv-loop : tie.InvT-loop
+Inv-loop a b t s n₀ i₀ n i = Rounds s n i
 
-round-requires-7 : tie.Need-round-requires-7
-round-requires-7 c κs = c .before .before .before .before .before .before .before .before .before .before .before .before .before .before .before .before .before .before .before .before .before .before .before .pre
+abbrev μ-loop : tie.MeasureT-loop
+μ-loop a b t s n₀ i₀ n i = 8 - i
 
-round-requires-8 : tie.Need-round-requires-8
-round-requires-8 c κs = c .before .before .before .before .before .before .before .before .before .before .before .before .before .before .before .before .before .before .before .before .before .before .before .before .before .before .pre
+loop-holds : tie.Need-loop-holds Inv-loop μ-loop
+loop-holds c =
+    let long : length (c .before .args .self .blocks) ≡ 8 = simp length-map at (c .before .good .0 .1 .1 .0 .1 .0 .1) in
+    begun _ _ long
 
-returns : tie.Need-returns
+loop-again : tie.Need-loop-again Inv-loop μ-loop
+loop-again c = turned (c .before .before .before .before .loop .inv) _ (omega arith) (c .round .ensures)
+
+returns : tie.Need-returns Inv-loop μ-loop
 returns c =
-    let r7 = c .before .before .before in
-    let r6 = r7 .before .before .before in
-    let x4 = r6 .before .before .before in
-    let r4 = x4 .before .before .before .before in
-    let r3 = r4 .before .before .before in
-    let r2 = r3 .before .before .before in
-    let x0 = r2 .before .before .before in
-    updated _ _ _ (x0 .before .round .ensures) (x0 .xor .ensures) (r2 .round2 .ensures) (r3 .round3 .ensures) (r4 .round4 .ensures)
-    (x4 .before .round5 .ensures) (x4 .xor2 .ensures) (r6 .round6 .ensures) (r7 .round7 .ensures) (c .round8 .ensures)
+    let x = c .before .before in
+    let L = x .before .before .before in
+    updated (L .loop .inv) _ _ (omega arith) _ _ (x .xor .ensures) (c .xor2 .ensures)
 
 pub update-spec : {M : Type 1} → statement M
 update-spec =
     tie.close
     (tie.spec
+    Inv-loop
+    μ-loop
+    loop-holds
+    (λ c. omega arith)
+    (λ c. omega arith)
+    (λ c. search needs)
+    (λ c. omega arith)
+    (λ c. search needs)
+    (λ c κs. search needs)
+    (λ c. omega arith)
+    (λ c. search needs)
+    (λ c. omega arith)
+    (λ c. omega arith)
+    loop-again
+    (λ c. search needs)
+    (λ c κs. search needs)
     (λ c. search needs)
     (λ c. search needs)
     (λ c κs. search needs)
-    (λ c κs. search needs)
     (λ c. search needs)
-    (λ c. search needs)
-    (λ c κs. search needs)
-    (λ c. search needs)
-    (λ c. search needs)
-    (λ c κs. search needs)
-    (λ c. search needs)
-    (λ c. search needs)
-    (λ c κs. search needs)
-    (λ c. search needs)
-    (λ c. search needs)
-    (λ c κs. search needs)
-    (λ c κs. search needs)
-    (λ c. search needs)
-    (λ c. search needs)
-    round-requires-6
-    (λ c. search needs)
-    (λ c. search needs)
-    round-requires-7
-    (λ c. search needs)
-    (λ c. search needs)
-    round-requires-8
     returns)

@@ -1,0 +1,80 @@
+-- `Core::absorb_blocks` meets its contract: a loop over whole blocks, and what is left begins a new one.
+-- Assumes nothing.
+use Prim.Native.Nat.{_+_, _-_}
+use mathlib.Core.Path.{_≡_, refl, ap, _∙_}
+use native.Mathlib.Omega.{arith}
+use lib.ListN.{length, take, drop, length-drop}
+use lib.Seq.{length-take-le}
+use borrow.Author.Needs.{needs}
+use Rattle.lent.proofs.Parts.{take-rest}
+use Rattle.aegis128l.specs.View.{stateOf}
+use Rattle.aegis128l.specs.Aegis128L as draft
+use Rattle.aegis128l_core.specs.View.{coreOf}
+use Rattle.aegis128l_core.proofs.Loop.{Absorbed, absorbed-turn, absorbed-tail, absorbed-done, starts-empty}
+use Rattle.aegis128l_core.proofs.Core.absorb_blocks.Statement.{statement}
+use Rattle.aegis128l_core.proofs.Core.absorb_blocks.Tie as tie
+
+abbrev Inv-loop : tie.InvT-loop
+Inv-loop input t s₀ i₀ s i = Absorbed draft.machine input (stateOf s₀) (stateOf s) i
+
+abbrev μ-loop : tie.MeasureT-loop
+μ-loop input t s₀ i₀ s i = length input - i
+
+loop-holds : tie.Need-loop-holds Inv-loop μ-loop
+loop-holds c = record { within = omega arith; state = refl }
+
+absorb-requires : tie.Need-absorb-requires Inv-loop μ-loop
+absorb-requires c κs =
+    let L = c .before .before .loop in
+    let x = c .before .before .before .before .args .input .now in
+    let l : length (take ((L .i + 32) - L .i) (drop (L .i) x)) ≡ (L .i + 32) - L .i = length-take-le ((L .i + 32) - L .i) (drop (L .i) x) (omega (arith, length-drop (L .i) x)) in
+    (search needs, omega arith)
+
+loop-again : tie.Need-loop-again Inv-loop μ-loop
+loop-again c =
+    let L = c .before .before .before .loop in
+    absorbed-turn draft.machine (stateOf (L .s)) (L .i) (L .inv) ((L .i + 32) - L .i) (L .i + 32) (c .absorb .ensures) (omega arith) (omega arith) (omega arith)
+
+take-in-requires : tie.Need-take-in-requires Inv-loop μ-loop
+take-in-requires c κs =
+    let L = c .before .before .before .before .loop in
+    let x = c .before .before .before .before .before .before .args .input .now in
+    let e = c .before .before .start in
+    let n : length (take (length x - L .i) (drop (L .i) x)) ≡ length x - L .i = ap length (take-rest (L .i) x) ∙ length-drop (L .i) x in
+    let z : e .result .fill ≡ 0 = starts-empty draft.machine (stateOf (L .s)) (coreOf (e .result)) (e .ensures) in
+    (search needs, (omega arith, omega arith))
+
+returns : tie.Need-returns Inv-loop μ-loop
+returns c =
+    let e = c .before .before .before in
+    let L = e .before .before .loop in
+    absorbed-tail draft.machine (stateOf (L .s)) (L .i) (L .inv) (e .start .ensures) (c .take-in .ensures)
+
+returns-2 : tie.Need-returns-2 Inv-loop μ-loop
+returns-2 c =
+    let e = c .before in
+    let L = e .before .before .loop in
+    absorbed-done draft.machine (stateOf (L .s)) (L .i) (L .inv) (e .start .ensures) (omega arith)
+
+pub absorb-blocks-spec : {M : Type 1} → statement M
+absorb-blocks-spec =
+    tie.close
+    (tie.spec
+    Inv-loop
+    μ-loop
+    loop-holds
+    (λ c. omega arith)
+    (λ c. omega arith)
+    (λ c. omega arith)
+    (λ c. omega arith)
+    (λ c. omega arith)
+    absorb-requires
+    (λ c. omega arith)
+    loop-again
+    (λ c κs. search needs)
+    (λ c. omega arith)
+    (λ c. omega arith)
+    (λ c. omega arith)
+    take-in-requires
+    returns
+    returns-2)

@@ -1,0 +1,34 @@
+// The keystream, and a message under it, with no tag.
+ghost use mathlib.Core.Path.{_≡_};
+ghost use Rattle.promises.specs.OneShot as promise;
+ghost use Rattle.aegis128l.specs.Cipher.{aegis128l};
+ghost use Rattle.oneshot.specs.Leaves.{left};
+use aegis128l::state::State;
+
+#[no_mangle]
+pub extern "C" fn aegis128l_stream(key: &[u8], nonce: &[u8], out: &mut [u8]) -> u8
+    ensures { λ r. ⌜ left r (now (out .exit)) ≡ promise.streamOf aegis128l (now (key .entry)) (now (nonce .entry)) (now (out .entry)) ⌝ }
+{
+    let a = answers::once::stream(16, key.len(), nonce.len());
+    if a != answers::DONE {
+        return a;
+    }
+    let n = out.len();
+    lent::wipe(out, n, 0);
+    let t = aes::sbox();
+    aegis128l_core::stream::stream_xor(State::new(key, nonce, &t), out, &t);
+    answers::DONE
+}
+
+#[no_mangle]
+pub extern "C" fn aegis128l_stream_xor(key: &[u8], nonce: &[u8], buf: &mut [u8]) -> u8
+    ensures { λ r. ⌜ left r (now (buf .exit)) ≡ promise.streamXorOf aegis128l (now (key .entry)) (now (nonce .entry)) (now (buf .entry)) ⌝ }
+{
+    let a = answers::once::stream(16, key.len(), nonce.len());
+    if a != answers::DONE {
+        return a;
+    }
+    let t = aes::sbox();
+    aegis128l_core::stream::stream_xor(State::new(key, nonce, &t), buf, &t);
+    answers::DONE
+}
