@@ -6,7 +6,7 @@
 RT ?= rt
 HUB_SAMPLE = examples/record.bin
 
-# rt ci comes last, so that its 'N passed, 0 failed' is the last line. It proves every crate from nothing.
+# All that CI runs; its last line is rt ci's own, "N passed, 0 failed".
 test: toolchain
 	@sh scripts/test.sh
 

@@ -1,20 +1,36 @@
 #!/bin/sh
-# All that CI runs, in order: the layout, the archive and the hub program, the examples, the comparison with the Rust, and last the gate
-# itself, rt ci, whose last line is 'N passed, 0 failed'. Any failure ends it with a line that says what failed.
+# All that CI runs. rt ci first: it proves every crate from nothing, tries the must-fail edits and runs the programs. What it proved is then
+# built into the archive and the hub program, which the examples and the comparison with the Rust use. The last line is rt ci's own.
+# Any failure ends it with a line that says what failed.
 set -u
 cd "$(dirname "$0")/.."
 RT=${RT:-rt}
+verdict=build/rt-ci.txt
+mkdir -p build
+
+failed() {
+    echo "test: FAILED: $1" >&2
+    exit 1
+}
 
 step() { # NAME COMMAND..
     name=$1
     shift
     echo "== $name"
-    "$@" || { echo "test: FAILED: $name" >&2; exit 1; }
+    "$@" || failed "$name"
 }
 
 step 'the layout of every file' "$RT" fmt --check
+
+echo '== the proofs, from nothing, the must-fail edits and the programs'
+rm -f build/rt-ci.status
+{ "$RT" ci 2>&1; echo $? >build/rt-ci.status; } | tee "$verdict"
+[ "$(cat build/rt-ci.status)" = 0 ] || failed 'rt ci'
+tail -n 1 "$verdict" | grep -Eqx '[0-9]+ passed, 0 failed' || failed "rt ci did not end with 'N passed, 0 failed'"
+
 step 'the archive for C and Rust' sh scripts/lib.sh
 step 'the hub program' sh scripts/hub.sh
 step 'the examples in C and Rust' examples/run.sh
 step 'the comparison with the Rust' compare/run.sh all build/hub crates/vectors/stdin
-step 'the proofs, from nothing, and the must-fail edits' "$RT" ci
+
+tail -n 1 "$verdict"

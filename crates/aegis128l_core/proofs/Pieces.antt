@@ -25,7 +25,8 @@ module _ {S : Type 0} (M : Machine S) (m : Mode) (c : Core S) (l : List ℕ) whe
       go (x ∷ xs) e = absurd (omega arith)
 
   -- at fill 0 the input goes in from the start of a block
-  pub from-edge : c .fill ≡ zero → zero < length l → {r : Core S} {ys : List ℕ} → r ≡ after M m (start M (c .state)) l → ys ≡ out M m (start M (c .state)) l
+  pub from-edge : c .fill ≡ zero → zero < length l → {r : Core S} {ys : List ℕ}
+      → r ≡ after M m (start M (c .state)) l → ys ≡ out M m (start M (c .state)) l
       → (r ≡ after M m c l) × (ys ≡ out M m c l)
   from-edge e some er ey = (er ∙ sym (after-fresh M m c e l some), ey ∙ sym (out-fresh M m c e l))
 
@@ -54,7 +55,8 @@ module _ (n j : ℕ) (l ys : List ℕ) (v : j ≡ n) (size : length ys ≡ n) wh
       ∙ ap (λ (b : List ℕ). ys ++ b) (append-nil zs)
 
 -- ---- the first n bytes of l complete the block that has been begun
-module _ {S : Type 0} (M : Machine S) (m : Mode) (c : Core S) (l : List ℕ) (n : ℕ) (full : length (c .buf) ≡ Machine.rate M) (some : zero < n) (fills : c .fill + n ≡ Machine.rate M) (enough : n ≤ length l) where
+module _ {S : Type 0} (M : Machine S) (m : Mode) (c : Core S) (l : List ℕ) (n : ℕ) (full : length (c .buf) ≡ Machine.rate M) (some : zero < n)
+    (fills : c .fill + n ≡ Machine.rate M) (enough : n ≤ length l) where
   -- so the core after them is at the start of a block
   at-edge : start M ((after M m c (take n l)) .state) ≡ after M m c (take n l)
   unfolding start
@@ -72,10 +74,14 @@ module _ {S : Type 0} (M : Machine S) (m : Mode) (c : Core S) (l : List ℕ) (n 
     goes-on = ap (λ (x : Core S). start M (x .state)) head-after ∙ at-edge
 
     -- the rest goes on from there
-    pub after-both : {r : Core S} → r ≡ after M m (start M (d .state)) (drop n l) → r ≡ after M m c l
+    after-both : {r : Core S} → r ≡ after M m (start M (d .state)) (drop n l) → r ≡ after M m c l
     after-both er =
         er ∙ ap (λ (x : Core S). after M m x (drop n l)) goes-on
         ∙ sym (after-append M m c (take n l) (drop n l)) ∙ ap (after M m c) (take-append-drop n l)
+
+    -- both parts were lent to be read
+    pub absorbed-both : {r : Core S} → r ≡ after M m (start M (d .state)) (take (length l - n) (drop n l)) → r ≡ after M m c l
+    absorbed-both er = after-both (er ∙ ap (after M m (start M (d .state))) (take-rest n l))
 
     -- both parts were lent in place: the head came back as ys, and the rest as zs
     pub transformed-both : {ys zs : List ℕ} {r : Core S} → ys ≡ out M m c (take j l)

@@ -24,10 +24,11 @@ pub struct Core {
 
 pub mod stream;
 
-// The block k with the plaintext of part in it, from f on. What came in with k goes out: part is encrypted or decrypted in place.
+// Bytes that fall in the block k from f on, encrypted or decrypted in place. Handed back is the block with their plaintext in it.
 fn filled(k: [u8; 32], f: usize, decrypt: bool, part: &mut [u8]) -> [u8; 32]
     requires { ⌜ f + length (now part) ≤ 32 ⌝ }
-    ensures { λ r. ⌜ (r ≡ take f k ++ plain (modeOf decrypt) (now (part .entry)) (now (part .exit)) ++ drop (f + length (now (part .entry))) k) × (now (part .exit) ≡ xors (now (part .entry)) (drop f k)) ⌝ }
+    ensures { λ r. ⌜ (r ≡ take f k ++ plain (modeOf decrypt) (now (part .entry)) (now (part .exit)) ++ drop (f + length (now (part .entry))) k)
+        × (now (part .exit) ≡ xors (now (part .entry)) (drop f k)) ⌝ }
 {
     let mut b = k;
     let e = f + part.len();
@@ -42,6 +43,7 @@ fn filled(k: [u8; 32], f: usize, decrypt: bool, part: &mut [u8]) -> [u8; 32]
 }
 
 impl Core {
+    // At the start of a block.
     pub fn start(state: State) -> Core
         ensures { λ r. ⌜ coreOf r ≡ machine.start draft.machine (stateOf state) ⌝ }
     {
@@ -84,7 +86,8 @@ impl Core {
     fn within(self, decrypt: bool, part: &mut [u8], t: &[u8; 256]) -> Core
         requires { ⌜ Table (now t) ⌝ }
         requires { ⌜ (0 < length (now part)) × (self .fill + length (now part) ≤ 32) ⌝ }
-        ensures { λ r. ⌜ (coreOf r ≡ machine.after draft.machine (modeOf decrypt) (coreOf self) (now (part .entry))) × (now (part .exit) ≡ machine.out draft.machine (modeOf decrypt) (coreOf self) (now (part .entry))) ⌝ }
+        ensures { λ r. ⌜ (coreOf r ≡ machine.after draft.machine (modeOf decrypt) (coreOf self) (now (part .entry)))
+            × (now (part .exit) ≡ machine.out draft.machine (modeOf decrypt) (coreOf self) (now (part .entry))) ⌝ }
     {
         let k = self.current();
         let f = self.fill;
@@ -97,7 +100,8 @@ impl Core {
     // From the start of a block: whole blocks, and the start of a new one.
     fn blocks(state: State, decrypt: bool, mc: &mut [u8], t: &[u8; 256]) -> Core
         requires { ⌜ Table (now t) ⌝ }
-        ensures { λ r. ⌜ (coreOf r ≡ machine.after draft.machine (modeOf decrypt) (machine.start draft.machine (stateOf state)) (now (mc .entry))) × (now (mc .exit) ≡ machine.out draft.machine (modeOf decrypt) (machine.start draft.machine (stateOf state)) (now (mc .entry))) ⌝ }
+        ensures { λ r. ⌜ (coreOf r ≡ machine.after draft.machine (modeOf decrypt) (machine.start draft.machine (stateOf state)) (now (mc .entry)))
+            × (now (mc .exit) ≡ machine.out draft.machine (modeOf decrypt) (machine.start draft.machine (stateOf state)) (now (mc .entry))) ⌝ }
     {
         let mut s = state;
         let mut i: usize = 0;
@@ -117,7 +121,8 @@ impl Core {
     pub fn transform(self, decrypt: bool, mc: &mut [u8], t: &[u8; 256]) -> Core
         requires { ⌜ Table (now t) ⌝ }
         requires { ⌜ self .fill < 32 ⌝ }
-        ensures { λ r. ⌜ (coreOf r ≡ machine.after draft.machine (modeOf decrypt) (coreOf self) (now (mc .entry))) × (now (mc .exit) ≡ machine.out draft.machine (modeOf decrypt) (coreOf self) (now (mc .entry))) ⌝ }
+        ensures { λ r. ⌜ (coreOf r ≡ machine.after draft.machine (modeOf decrypt) (coreOf self) (now (mc .entry)))
+            × (now (mc .exit) ≡ machine.out draft.machine (modeOf decrypt) (coreOf self) (now (mc .entry))) ⌝ }
     {
         let f = self.fill;
         if mc.len() == 0 {
@@ -161,9 +166,11 @@ impl Core {
         Core::settled(s, b, e, t)
     }
 
+    // From the start of a block: whole blocks, and the start of a new one.
     fn absorb_blocks(state: State, input: &[u8], t: &[u8; 256]) -> Core
         requires { ⌜ Table (now t) ⌝ }
-        ensures { λ r. ⌜ coreOf r ≡ machine.after (silent draft.machine) machine.enc (machine.start (silent draft.machine) (stateOf state)) (now (input .entry)) ⌝ }
+        ensures { λ r. ⌜ coreOf r ≡ machine.after (silent draft.machine) machine.enc (machine.start (silent draft.machine) (stateOf state))
+            (now (input .entry)) ⌝ }
     {
         let mut s = state;
         let mut i: usize = 0;

@@ -13,7 +13,8 @@ use aegis128l::state::State;
 fn over_block(s: State, part: &mut [u8], t: &[u8; 256]) -> State
     requires { ⌜ Table (now t) ⌝ }
     requires { ⌜ length (now part) ≤ 32 ⌝ }
-    ensures { λ r. ⌜ (stateOf r ≡ draft.absorb (stateOf s) (zeros 32)) × (now (part .exit) ≡ xors (now (part .entry)) (draft.keystream (stateOf s))) ⌝ }
+    ensures { λ r. ⌜ (stateOf r ≡ draft.absorb (stateOf s) (zeros 32))
+        × (now (part .exit) ≡ xors (now (part .entry)) (draft.keystream (stateOf s))) ⌝ }
 {
     let z = s.keystream();
     lent::xor_into(&z, part);
@@ -21,6 +22,7 @@ fn over_block(s: State, part: &mut [u8], t: &[u8; 256]) -> State
     s.absorb(&none, t)
 }
 
+// Any bytes, in place.
 pub fn stream_xor(s: State, buf: &mut [u8], t: &[u8; 256])
     requires { ⌜ Table (now t) ⌝ }
     ensures { λ _. ⌜ now (buf .exit) ≡ streamXor draft.machine (stateOf s) (now (buf .entry)) ⌝ }

@@ -3,7 +3,7 @@
 use borrow.Author.Needs.{needs}
 use Rattle.aegis128l.specs.View.{stateOf}
 use Rattle.aegis128l.specs.Aegis128L as draft
-use Rattle.aegis128l_core.proofs.Loop.{absorbed-below, absorbed-closed}
+use Rattle.aegis128l_core.proofs.Absorbing.{absorbed-below, absorbed-closed}
 use Rattle.aegis128l_core.proofs.absorb_ad.Statement.{statement}
 use Rattle.aegis128l_core.proofs.absorb_ad.Tie as tie
 

@@ -1,18 +1,16 @@
 -- `Core::absorb` meets its contract: the rest of a block that has been begun, and then whole blocks.
 -- Assumes nothing.
 use Prim.Native.Nat.{_-_}
-use mathlib.Core.Path.{_≡_, ap, _∙_, sym}
+use mathlib.Core.Path.{_≡_, sym, _∙_}
 use native.Mathlib.Omega.{arith}
 use lib.ListN.{length}
 use borrow.Author.Needs.{needs}
-use Rattle.machine.specs.Machine.{enc, start, after}
+use Rattle.machine.specs.Machine.{enc}
 use Rattle.machine.specs.Kinds.{silent}
 use Rattle.machine.proofs.Fresh.{after-fresh}
-use Rattle.lent.proofs.Parts.{take-rest}
-use Rattle.aegis128l.specs.View.{stateOf}
 use Rattle.aegis128l.specs.Aegis128L as draft
 use Rattle.aegis128l_core.specs.View.{coreOf}
-use Rattle.aegis128l_core.proofs.Pieces.{nothing, after-both}
+use Rattle.aegis128l_core.proofs.Pieces.{nothing, absorbed-both}
 use Rattle.aegis128l_core.proofs.Core.absorb.Statement.{statement}
 use Rattle.aegis128l_core.proofs.Core.absorb.Tie as tie
 
@@ -38,9 +36,8 @@ returns-4 c =
     let A = s .args in
     let l = A .input .now in
     let n = 32 - A .self .fill in
-    after-both (silent draft.machine) enc (coreOf (A .self)) l n (full s) (omega arith) (omega arith) (omega arith)
-    (n - 0) (omega arith) (h .take-in2 .ensures)
-    (c .absorb-blocks2 .ensures ∙ ap (after (silent draft.machine) enc (start (silent draft.machine) (stateOf (h .take-in2 .result .state)))) (take-rest n l))
+    absorbed-both (silent draft.machine) enc (coreOf (A .self)) l n (full s) (omega arith) (omega arith) (omega arith)
+    (n - 0) (omega arith) (h .take-in2 .ensures) (c .absorb-blocks2 .ensures)
 
 pub absorb-spec : {M : Type 1} → statement M
 absorb-spec =

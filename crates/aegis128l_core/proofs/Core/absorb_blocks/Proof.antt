@@ -1,16 +1,15 @@
 -- `Core::absorb_blocks` meets its contract: a loop over whole blocks, and what is left begins a new one.
 -- Assumes nothing.
 use Prim.Native.Nat.{_+_, _-_}
-use mathlib.Core.Path.{_≡_, refl, ap, _∙_}
+use mathlib.Core.Path.{_≡_, refl}
 use native.Mathlib.Omega.{arith}
-use lib.ListN.{length, take, drop, length-drop}
-use lib.Seq.{length-take-le}
+use lib.ListN.{length}
 use borrow.Author.Needs.{needs}
-use Rattle.lent.proofs.Parts.{take-rest}
 use Rattle.aegis128l.specs.View.{stateOf}
 use Rattle.aegis128l.specs.Aegis128L as draft
 use Rattle.aegis128l_core.specs.View.{coreOf}
-use Rattle.aegis128l_core.proofs.Loop.{Absorbed, absorbed-turn, absorbed-tail, absorbed-done, starts-empty}
+use Rattle.aegis128l_core.proofs.Loop.{block-length, rest-length, starts-empty}
+use Rattle.aegis128l_core.proofs.Absorbing.{Absorbed, absorbed-turn, absorbed-tail, absorbed-done}
 use Rattle.aegis128l_core.proofs.Core.absorb_blocks.Statement.{statement}
 use Rattle.aegis128l_core.proofs.Core.absorb_blocks.Tie as tie
 
@@ -27,20 +26,20 @@ absorb-requires : tie.Need-absorb-requires Inv-loop μ-loop
 absorb-requires c κs =
     let L = c .before .before .loop in
     let x = c .before .before .before .before .args .input .now in
-    let l : length (take ((L .i + 32) - L .i) (drop (L .i) x)) ≡ (L .i + 32) - L .i = length-take-le ((L .i + 32) - L .i) (drop (L .i) x) (omega (arith, length-drop (L .i) x)) in
-    (search needs, omega arith)
+    (search needs, block-length (L .i) 32 x (omega arith))
 
 loop-again : tie.Need-loop-again Inv-loop μ-loop
 loop-again c =
     let L = c .before .before .before .loop in
-    absorbed-turn draft.machine (stateOf (L .s)) (L .i) (L .inv) ((L .i + 32) - L .i) (L .i + 32) (c .absorb .ensures) (omega arith) (omega arith) (omega arith)
+    absorbed-turn draft.machine (stateOf (L .s)) (L .i) (L .inv) ((L .i + 32) - L .i) (L .i + 32) (c .absorb .ensures)
+    (omega arith) (omega arith) (omega arith)
 
 take-in-requires : tie.Need-take-in-requires Inv-loop μ-loop
 take-in-requires c κs =
     let L = c .before .before .before .before .loop in
     let x = c .before .before .before .before .before .before .args .input .now in
     let e = c .before .before .start in
-    let n : length (take (length x - L .i) (drop (L .i) x)) ≡ length x - L .i = ap length (take-rest (L .i) x) ∙ length-drop (L .i) x in
+    let n = rest-length (L .i) x in
     let z : e .result .fill ≡ 0 = starts-empty draft.machine (stateOf (L .s)) (coreOf (e .result)) (e .ensures) in
     (search needs, (omega arith, omega arith))
 

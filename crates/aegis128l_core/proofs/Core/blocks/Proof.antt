@@ -1,22 +1,20 @@
 -- `Core::blocks` meets its contract: a loop over whole blocks, and what is left begins a new one.
 -- Assumes nothing.
 use Prim.Native.Nat.{_+_, _-_}
-use mathlib.Core.Path.{_≡_, refl, ap, _∙_}
+use mathlib.Core.Path.{_≡_, refl, _∙_}
 use native.Mathlib.Omega.{arith}
-use lib.ListN.{length, take, drop, length-drop}
-use lib.Seq.{length-take-le}
+use lib.ListN.{length}
 use borrow.Author.Needs.{needs}
-use Rattle.lent.proofs.Parts.{take-rest}
-use Rattle.lent.proofs.Rest.{Going, going-start, going-turn}
+use Rattle.lent.proofs.Rest.{going-start, going-turn}
 use Rattle.aegis128l.specs.View.{stateOf, modeOf}
 use Rattle.aegis128l.specs.Aegis128L as draft
 use Rattle.aegis128l_core.specs.View.{coreOf}
-use Rattle.aegis128l_core.proofs.Loop.{afterFrom, outFrom, by-blocks, blocks-tail, blocks-done, starts-empty}
+use Rattle.aegis128l_core.proofs.Loop.{Transformed, by-blocks, blocks-tail, blocks-done, block-length, rest-length, starts-empty}
 use Rattle.aegis128l_core.proofs.Core.blocks.Statement.{statement}
 use Rattle.aegis128l_core.proofs.Core.blocks.Tie as tie
 
 abbrev Inv-loop : tie.InvT-loop
-Inv-loop decrypt mc₀ t s₀ i₀ mc s i = Going (afterFrom draft.machine (modeOf decrypt)) (outFrom draft.machine (modeOf decrypt)) (stateOf s₀) mc₀ (stateOf s) mc i
+Inv-loop decrypt mc₀ t s₀ i₀ mc s i = Transformed draft.machine (modeOf decrypt) (stateOf s₀) mc₀ (stateOf s) mc i
 
 abbrev μ-loop : tie.MeasureT-loop
 μ-loop decrypt mc₀ t s₀ i₀ mc s i = length mc₀ - i
@@ -27,8 +25,7 @@ loop-holds c = going-start _ _
 block-requires : tie.Need-block-requires Inv-loop μ-loop
 block-requires c κs =
     let L = c .before .before .loop in
-    let l : length (take ((L .i + 32) - L .i) (drop (L .i) (L .mc))) ≡ (L .i + 32) - L .i = length-take-le ((L .i + 32) - L .i) (drop (L .i) (L .mc)) (omega (arith, length-drop (L .i) (L .mc))) in
-    (search needs, omega arith)
+    (search needs, block-length (L .i) 32 (L .mc) (omega arith))
 
 loop-again : tie.Need-loop-again Inv-loop μ-loop
 loop-again c =
@@ -42,7 +39,7 @@ within-requires : tie.Need-within-requires Inv-loop μ-loop
 within-requires c κs =
     let L = c .before .before .before .before .loop in
     let e = c .before .before .start in
-    let n : length (take (length (L .mc) - L .i) (drop (L .i) (L .mc))) ≡ length (L .mc) - L .i = ap length (take-rest (L .i) (L .mc)) ∙ length-drop (L .i) (L .mc) in
+    let n = rest-length (L .i) (L .mc) in
     let z : e .result .fill ≡ 0 = starts-empty draft.machine (stateOf (L .s)) (coreOf (e .result)) (e .ensures) in
     (search needs, (omega arith, omega arith))
 

@@ -22,8 +22,8 @@ returns c =
     let A = k .before .before .args in
     let xs = A .part .now in
     let p = k .before .before .pre .1 in
-    taken-in draft.machine (coreOf (A .self)) xs (full (k .before .before)) (p .0) (p .1) ((A .self .fill + length xs) - A .self .fill) _ (k .current-silent .ensures)
-    (omega arith) (g .put .ensures) (c .settled .ensures)
+    taken-in draft.machine (coreOf (A .self)) xs (full (k .before .before)) (p .0) (p .1) ((A .self .fill + length xs) - A .self .fill) _
+    (k .current-silent .ensures) (omega arith) (g .put .ensures) (c .settled .ensures)
 
 pub take-in-spec : {M : Type 1} → statement M
 take-in-spec =

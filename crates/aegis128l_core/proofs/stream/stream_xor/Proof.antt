@@ -1,16 +1,15 @@
 -- `stream_xor` meets its contract: a loop over whole blocks of keystream, and a part of one.
 -- Assumes nothing.
 use Prim.Native.Nat.{_+_, _-_}
-use mathlib.Core.Path.{_≡_, refl, ap, _∙_}
+use mathlib.Core.Path.{refl, _∙_}
 use native.Mathlib.Omega.{arith}
-use lib.ListN.{length, take, drop, length-drop}
-use lib.Seq.{length-take-le}
+use lib.ListN.{length}
 use borrow.Author.Needs.{needs}
-use Rattle.lent.proofs.Parts.{take-rest}
 use Rattle.lent.proofs.Rest.{going-start, going-turn}
 use Rattle.aegis128l.specs.View.{stateOf}
 use Rattle.aegis128l.specs.Aegis128L as draft
-use Rattle.aegis128l_core.proofs.Loop.{Streamed, stream-blocks, streamed-tail, streamed-done}
+use Rattle.aegis128l_core.proofs.Loop.{block-length, rest-length}
+use Rattle.aegis128l_core.proofs.Streaming.{Streamed, stream-blocks, streamed-tail, streamed-done}
 use Rattle.aegis128l_core.proofs.stream.stream_xor.Statement.{statement}
 use Rattle.aegis128l_core.proofs.stream.stream_xor.Tie as tie
 
@@ -26,7 +25,7 @@ loop-holds c = going-start _ _
 over-block-requires : tie.Need-over-block-requires Inv-loop μ-loop
 over-block-requires c κs =
     let L = c .before .before .loop in
-    let l : length (take ((L .i + 32) - L .i) (drop (L .i) (L .buf))) ≡ (L .i + 32) - L .i = length-take-le ((L .i + 32) - L .i) (drop (L .i) (L .buf)) (omega (arith, length-drop (L .i) (L .buf))) in
+    let l = block-length (L .i) 32 (L .buf) (omega arith) in
     (search needs, omega arith)
 
 loop-again : tie.Need-loop-again Inv-loop μ-loop
@@ -39,7 +38,7 @@ loop-again c =
 over-block-requires-2 : tie.Need-over-block-requires-2 Inv-loop μ-loop
 over-block-requires-2 c κs =
     let L = c .before .before .before .loop in
-    let n : length (take (length (L .buf) - L .i) (drop (L .i) (L .buf))) ≡ length (L .buf) - L .i = ap length (take-rest (L .i) (L .buf)) ∙ length-drop (L .i) (L .buf) in
+    let n = rest-length (L .i) (L .buf) in
     (search needs, omega arith)
 
 same-length : tie.Need-same-length Inv-loop μ-loop

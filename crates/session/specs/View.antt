@@ -1,0 +1,57 @@
+-- The structs of the code as the promises have them.
+-- Assumes nothing.
+use Prim.Native.Nat.{ℕ}
+use mathlib.Core.Bool.{Bool}
+use mathlib.Core.List.{List}
+use lib.ListN.{length}
+use Rattle.machine.specs.Machine.{after, out}
+use Rattle.promises.specs.Session as promise
+use Rattle.aegis128l.specs.Aegis128L.{Blocks, machine}
+use Rattle.aegis128l.specs.View.{blocksOf, modeOf}
+use Rattle.session.specs.declared.Session.{Session}
+use Rattle.session.specs.declared.Piece.{Piece}
+use Rattle.session.specs.declared.Opened.{Opened}
+use Rattle.session.specs.declared.Finish.{Finish}
+
+abbrev pub sessionOf : Session → promise.Session Blocks
+sessionOf s = record {
+  state = blocksOf (s .blocks);
+  buf = s .buf;
+  fill = s .fill;
+  adLength = s .«ad_len»;
+  msgLength = s .«msg_len»;
+  tagSize = s .«tag_size»;
+  mark = s .mark;
+  room = s .room;
+  written = s .written;
+}
+
+-- a session after bytes that its machine encrypted, or decrypted
+abbrev pub fedWith : Bool → promise.Session Blocks → List ℕ → promise.Session Blocks
+fedWith decrypt s xs = promise.advanced s (after machine (modeOf decrypt) (promise.core s) xs) (length xs)
+
+-- and what comes out for them
+abbrev pub outWith : Bool → promise.Session Blocks → List ℕ → List ℕ
+outWith decrypt s xs = out machine (modeOf decrypt) (promise.core s) xs
+
+-- what was handed back, alone and with what the lent buffer then holds
+abbrev pub handedOf : Piece → promise.Handed Blocks
+handedOf r = record { answer = r .answer; session = sessionOf (r .session) }
+
+abbrev pub wroteOf : Piece → List ℕ → promise.Wrote Blocks
+wroteOf r out = record { answer = r .answer; session = sessionOf (r .session); out = out }
+
+abbrev pub openedOf : Finish → List ℕ → promise.Opened Blocks
+openedOf r out = record {
+  answer = r .opened .answer;
+  count = r .opened .count;
+  session = sessionOf (r .session);
+  out = out;
+}
+
+-- what a thin form hands back, beside the session that it leaves with the caller
+abbrev pub piece : ℕ → Session → Piece
+piece a s = record { answer = a; session = s }
+
+abbrev pub finish : Opened → Session → Finish
+finish o s = record { opened = o; session = s }
