@@ -20,6 +20,7 @@ pub mod SessionLive
 pub mod SessionLadders
 pub mod SessionCalls
 pub mod SessionUnique
+pub mod SessionEmpty
 pub mod SessionAt
 pub mod RunsCalls
 pub mod Runs
