@@ -6,7 +6,7 @@ RT=${RT:-rt}
 command -v ar >/dev/null || { echo "lib: ar is not on the path (Debian's package binutils has it)" >&2; exit 1; }
 mkdir -p build target/log
 rm -f build/libaegis128l.a
-for crate in oneshot session; do
+for crate in oneshot session thin; do
     "$RT" staticlib "$crate" >"target/log/lib-$crate.txt" 2>&1 || { cat "target/log/lib-$crate.txt"; echo "lib: crate $crate was not built" >&2; exit 1; }
     rm -rf "build/objects/$crate"
     mkdir -p "build/objects/$crate"

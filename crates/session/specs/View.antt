@@ -10,7 +10,6 @@ use Rattle.aegis128l.specs.Aegis128L.{Blocks, machine}
 use Rattle.aegis128l.specs.View.{blocksOf, modeOf}
 use Rattle.session.specs.declared.Session.{Session}
 use Rattle.session.specs.declared.Piece.{Piece}
-use Rattle.session.specs.declared.Opened.{Opened}
 use Rattle.session.specs.declared.Finish.{Finish}
 
 abbrev pub sessionOf : Session → promise.Session Blocks
@@ -48,10 +47,3 @@ openedOf r out = record {
   session = sessionOf (r .session);
   out = out;
 }
-
--- what a thin form hands back, beside the session that it leaves with the caller
-abbrev pub piece : ℕ → Session → Piece
-piece a s = record { answer = a; session = s }
-
-abbrev pub finish : Opened → Session → Finish
-finish o s = record { opened = o; session = s }

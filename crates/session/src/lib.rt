@@ -1,4 +1,4 @@
-// A session takes a message in pieces. It goes in by value and comes back by value.
+// A session takes a message in pieces. It goes in by value and comes back by value; crate `thin` has the form in which the caller lends it.
 ghost use mathlib.Core.Path.{_≡_};
 ghost use mathlib.Core.Bool.{true};
 ghost use Rattle.promises.specs.Session as promise;

@@ -25,9 +25,11 @@ returns c =
 
 close-requires : tie.Need-close-requires
 close-requires c κs =
-    let earlier = c .before .before .before in
-    (earlier .before .sbox .ensures, core-fill aegis128l (sessionOf (earlier .before .before .before .args .s)) _
-    (earlier .core-of .ensures) (formed-fill aegis128l _ (earlier .before .before .before .pre .0)))
+    let earlier = c .before .before .before in (
+      earlier .before .sbox .ensures,
+      core-fill aegis128l (sessionOf (earlier .before .before .before .args .s)) _
+          (earlier .core-of .ensures) (formed-fill aegis128l _ (earlier .before .before .before .pre .0)),
+    )
 
 tag-requires-2 : tie.Need-tag-requires-2
 tag-requires-2 c κs =

@@ -12,9 +12,11 @@ use Rattle.session.proofs.finishes.put_tag.Tie as tie
 
 close-requires : tie.Need-close-requires
 close-requires c κs =
-    let earlier = c .before .before in
-    (earlier .sbox .ensures, core-fill aegis128l (sessionOf (earlier .before .before .args .s)) _ (c .before .core-of .ensures)
-    (formed-fill aegis128l _ (earlier .before .before .pre .0)))
+    let earlier = c .before .before in (
+      earlier .sbox .ensures,
+      core-fill aegis128l (sessionOf (earlier .before .before .args .s)) _ (c .before .core-of .ensures)
+          (formed-fill aegis128l _ (earlier .before .before .pre .0)),
+    )
 
 tag-requires : tie.Need-tag-requires
 tag-requires c κs =

@@ -15,8 +15,11 @@ add-e : tie.Need-add-e
 add-e c =
     let earlier = c .before .before in
     let g = earlier .before .before .before .args in
-    omega (arith, open-fits aegis128l (sessionOf (g .s)) (g .ct .now) (g .plain .now) _ _ (earlier .live .ensures)
-    (c .before .open-piece .ensures) (c .if1 .left))
+    omega (
+      arith,
+      open-fits aegis128l (sessionOf (g .s)) (g .ct .now) (g .plain .now) _ _ (earlier .live .ensures)
+          (c .before .open-piece .ensures) (c .if1 .left),
+    )
 
 part-transformed-into-end : tie.Need-part-transformed-into-end
 part-transformed-into-end c =

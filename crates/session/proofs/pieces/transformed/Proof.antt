@@ -10,9 +10,11 @@ use Rattle.session.proofs.pieces.transformed.Tie as tie
 
 transform-requires : tie.Need-transform-requires
 transform-requires c κs =
-    let earlier = c .before .before in
-    (earlier .before .sbox .ensures, core-fill aegis128l (sessionOf (earlier .before .before .before .args .s)) _
-    (earlier .core-of .ensures) (earlier .before .before .before .pre .0))
+    let earlier = c .before .before in (
+      earlier .before .sbox .ensures,
+      core-fill aegis128l (sessionOf (earlier .before .before .before .args .s)) _
+          (earlier .core-of .ensures) (earlier .before .before .before .pre .0),
+    )
 
 returns : tie.Need-returns
 returns c =
