@@ -1,11 +1,15 @@
--- The cases of the scope, and one round of FIPS 197 with unequal bytes, in one table: what the definitions give, and what it must be.
--- `proofs/Cases.antt` shows that they are the same.
+-- The cases of document 01, "Cases proved", and one round of FIPS 197 with unequal bytes, in one table: what the definitions give, and
+-- what it must be. `proofs/Cases.antt` shows that they are the same.
 -- Assumes nothing.
-use Prim.Native.Nat.{ℕ}
-use mathlib.Core.List.{List, [], _∷_}
+use Prim.Native.Nat.{ℕ, _*_, _^_, _-_}
+use mathlib.Core.List.{List, [], _∷_, _++_}
 use lib.ListN.{replicate}
+use Rattle.machine.specs.Bytes.{zeros}
+use Rattle.answers.specs.Length.{addedTo}
 use Rattle.aes.specs.Field.{mul, sbox}
 use Rattle.aes.specs.Round.{columnsOf, bytesOf, shiftRows, mixColumn, roundOf}
+use Rattle.aegis128l.specs.Aegis128L.{le64, lengthBlock, absorb, keystream}
+use Rattle.hub_record.specs.Nonce.{nonceOf}
 
 pub record Case : Type 0 where
   pub gives : List ℕ
@@ -57,5 +61,31 @@ appendixB =
     (0xa0 ∷ 0xfa ∷ 0xfe ∷ 0x17 ∷ 0x88 ∷ 0x54 ∷ 0x2c ∷ 0xb1 ∷ 0x23 ∷ 0xa3 ∷ 0x39 ∷ 0x39 ∷ 0x2a ∷ 0x6c ∷ 0x76 ∷ 0x05 ∷ [])
     is (0xa4 ∷ 0x9c ∷ 0x7f ∷ 0xf2 ∷ 0x68 ∷ 0x9f ∷ 0x35 ∷ 0x2b ∷ 0x6b ∷ 0x5b ∷ 0xea ∷ 0x43 ∷ 0x02 ∷ 0x6a ∷ 0x50 ∷ 0x49 ∷ [])
 
+-- P9: lengths for AD 13, message 33: 68 then seven 00, 08 01 then six 00
+abbrev p9 : Case
+p9 = lengthBlock 13 33 is ((0x68 ∷ zeros 7) ++ (0x08 ∷ 0x01 ∷ zeros 6))
+
+-- P10: MAC lengths for 0 bytes, tag 32: eight 00, then 00 01 and six 00
+abbrev p10 : Case
+p10 = lengthBlock 0 32 is (zeros 8 ++ (0x00 ∷ 0x01 ∷ zeros 6))
+
+-- P11: 2^61-1 bytes as bits: f8 then seven ff
+abbrev p11 : Case
+p11 = le64 ((2 ^ 61 - 1) * 8) is (0xf8 ∷ replicate 7 0xff)
+
+-- P12: total 2^61-2 plus 1 is accepted; 2^61-1 plus 0 is accepted; plus 1 is answer 5
+abbrev p12 : Case
+p12 =
+    (addedTo (2 ^ 61 - 2) 1 .answer ∷ addedTo (2 ^ 61 - 1) 0 .answer ∷ addedTo (2 ^ 61 - 1) 1 .answer ∷ [])
+    is (0 ∷ 0 ∷ 5 ∷ [])
+
+-- P13: from an all-zero state, after absorbing 32 zeros, the keystream is 32 bytes of 63
+abbrev p13 : Case
+p13 = keystream (absorb (replicate 8 (zeros 16)) (zeros 32)) is replicate 32 0x63
+
+-- P14: nonce of scale 258, record 1: 02 01, six 00, 01, seven 00
+abbrev p14 : Case
+p14 = nonceOf 258 1 is ((0x02 ∷ 0x01 ∷ zeros 6) ++ (0x01 ∷ zeros 7))
+
 abbrev pub cases : List Case
-cases = p1 ∷ p2 ∷ p3 ∷ p4 ∷ p5 ∷ p6 ∷ p7 ∷ p8 ∷ appendixB ∷ []
+cases = p1 ∷ p2 ∷ p3 ∷ p4 ∷ p5 ∷ p6 ∷ p7 ∷ p8 ∷ appendixB ∷ p9 ∷ p10 ∷ p11 ∷ p12 ∷ p13 ∷ p14 ∷ []

@@ -3,12 +3,12 @@
 -- Assumes nothing.
 use Prim.Native.Nat.{ℕ, _≤_}
 use native.Mathlib.Omega.{arith}
-use mathlib.Core.Path.{_≡_, refl, sym, ap, subst, _∙_}
+use mathlib.Core.Path.{_≡_, refl, sym, ap, _∙_}
 use mathlib.Core.Bool.{Bool, true, false, true≢false}
 use mathlib.Core.List.{List}
 use lib.ListN.{length}
 use lib.Dec.{eqb}
-use borrow.Author.Tests.{eqb-true}
+use borrow.Author.Tests.{eqb-true, eq-eqb}
 use Rattle.machine.specs.Machine.{Machine}
 use Rattle.answers.specs.Answers as answers
 use Rattle.answers.proofs.Answers.{FinishOk, OpenFinishOk, AbortOk, finish-ok, open-finish-ok, abort-ok}
@@ -17,7 +17,7 @@ use Rattle.lent.proofs.Wiped.{wiped-fits}
 use Rattle.promises.specs.Cipher.{Cipher}
 use Rattle.promises.specs.Session.{pick, sealing, opening, macing, Session, Handed, Wrote, Opened, ifOpening, wellFormed, live, erased, ended, abortLive}
 use Rattle.promises.specs.Session.{sessionTag, sessionMac, sealFinish, macFinish, macFinishCheck, released, openFinish, abort}
-use Rattle.promises.proofs.SessionLive.{opening-facts, abortLive-facts}
+use Rattle.promises.proofs.SessionLive.{live-facts, opening-facts, abortLive-facts}
 use Rattle.session.proofs.Ladder.{met-done, met-refused}
 use Rattle.session.proofs.LiveFacts.{live-formed}
 
@@ -81,6 +81,12 @@ module _ {S : Type 0} (C : Cipher S) where
           met-done _ _ _ a (ladder macing s tag l a is-live answer) h
           (eg ∙ (λ k. record { answer = answers.unless 7 ((sym came ∙ verdict) k) 0; session = ended C }))
 
+  -- ---- what an opener erases
+
+  erasing : (t : Bool) (n : ℕ) (plain : List ℕ) → (t ≡ true → n ≤ length plain) → pick t (wiped n 0 plain) plain ≡ pick t (erased n plain) plain
+  erasing true n plain h = wiped-fits n 0 plain (h refl)
+  erasing false n plain h = refl
+
   -- ---- opening
 
   module _ (s : Session S) (tag plain : List ℕ) (l : Bool) (a : ℕ)
@@ -112,11 +118,13 @@ module _ {S : Type 0} (C : Cipher S) where
             ((λ k. record { answer = 0; count = s .written; session = over k; out = plain })
             ∙ ap (λ (v : Bool). released C v s plain) (sym e ∙ verdict))
 
-        pub open-erased : m ≡ false → (o : List ℕ) → o ≡ wiped (s .written) 0 plain
+        pub open-erased : m ≡ false → (o : List ℕ) → o ≡ ifOpening s (wiped (s .written) 0 plain) plain
             → _≡_ {A = Opened S} (record { answer = 7; count = 0; session = t; out = o }) (openFinish C s tag plain)
         unfolding openFinish released
         open-erased e o eo =
-            let w : o ≡ erased (s .written) plain = eo ∙ wiped-fits (s .written) 0 plain open-within in
+            let k : eqb (s .mark) opening ≡ true = eq-eqb (s .mark) opening (live-facts rate s opening (open-ok h .is-live) .kind-is) in
+            let w : o ≡ erased (s .written) plain
+            = eo ∙ erasing (eqb (s .mark) opening) (s .written) plain (λ _. open-within) ∙ ap (λ (x : Bool). pick x (erased (s .written) plain) plain) k in
             met-done _ _ _ a open-ladder h
             ((λ k. record { answer = 7; count = 0; session = over k; out = w k }) ∙ ap (λ (v : Bool). released C v s plain) (sym e ∙ verdict))
 
@@ -126,10 +134,6 @@ module _ {S : Type 0} (C : Cipher S) where
   picked : (t x : Bool) → pick t x true ≡ true → t ≡ true → x ≡ true
   picked true x h e = h
   picked false x h e = absurd (true≢false (sym e))
-
-  erasing : (t : Bool) (n : ℕ) (plain : List ℕ) → (t ≡ true → n ≤ length plain) → pick t (wiped n 0 plain) plain ≡ pick t (erased n plain) plain
-  erasing true n plain h = wiped-fits n 0 plain (h refl)
-  erasing false n plain h = refl
 
   module _ (s : Session S) (plain : List ℕ) (l same-buffer : Bool) (a : ℕ)
       (is-live : l ≡ abortLive C s) (is-lent : same-buffer ≡ ifOpening s (eqb (length plain) (s .room)) true)

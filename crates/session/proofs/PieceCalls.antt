@@ -3,7 +3,7 @@
 -- Assumes nothing.
 use Prim.Native.Nat.{ℕ, _+_, _-_, _<_, _≤_}
 use native.Mathlib.Omega.{arith}
-use mathlib.Core.Path.{_≡_, refl, sym, ap, _∙_}
+use mathlib.Core.Path.{_≡_, sym, ap, _∙_}
 use mathlib.Core.Bool.{Bool}
 use mathlib.Core.List.{List, _++_}
 use lib.ListN.{length, take, drop, length-drop}
@@ -17,7 +17,6 @@ use Rattle.answers.proofs.Answers.{SealPieceOk, PieceOk, OpenPieceOk, seal-piec
 use Rattle.lent.specs.Lent.{over}
 use Rattle.lent.proofs.Over.{over-same}
 use Rattle.promises.specs.Cipher.{Cipher}
-use Rattle.promises.specs.OneShot.{onto}
 use Rattle.promises.specs.Session.{sealing, opening, macing, Session, Handed, Wrote, live, core, advanced, wroteMore}
 use Rattle.promises.specs.Session.{sealPiece, sealPieceInPlace, openPiece, macPiece}
 use Rattle.session.proofs.Ladder.{met-done, met-refused}

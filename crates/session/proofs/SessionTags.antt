@@ -1,13 +1,13 @@
 -- The tag of a session, from the machine at work in it (k) and the state that it is closed to (e); and a tag made in a part of a buffer.
 -- Assumes nothing.
-use Prim.Native.Nat.{ℕ, zero, suc, _+_, _-_, _≤_}
+use Prim.Native.Nat.{ℕ, zero, suc, _-_, _≤_}
 use native.Mathlib.Omega.{arith}
 use mathlib.Core.Path.{_≡_, refl, sym, ap, _∙_}
 use mathlib.Core.Bool.{Bool}
 use mathlib.Core.List.{List, _++_}
 use lib.ListN.{length, take, length-append}
 use lib.Seq.{length-take-le, take-at}
-use Rattle.machine.specs.Machine.{Machine, Core, close}
+use Rattle.machine.specs.Machine.{Core, close}
 use Rattle.lent.specs.Lent.{same}
 use Rattle.promises.specs.Cipher.{Cipher}
 use Rattle.promises.specs.Session.{Session, core, macClosed, sessionTag, sessionMac}

@@ -124,6 +124,16 @@ fn told(a: u8, count: usize, s: Session) -> Finish
     }
 }
 
+// An opener erases what it wrote; other kinds have nothing to erase.
+fn erase(s: Session, plain: &mut [u8])
+    ensures { λ _. ⌜ now (plain .exit) ≡ promise.ifOpening (sessionOf s) (wiped (s .written) 0 (now (plain .entry))) (now (plain .entry)) ⌝ }
+{
+    if s.mark != crate::OPENING {
+        return;
+    }
+    lent::wipe(plain, s.written, 0);
+}
+
 // Only answer 0 releases the written prefix; 7 erases it.
 pub fn open_finish(s: Session, tag: &[u8], plain: &mut [u8]) -> Finish
     ensures { λ r. ⌜ openedOf r (now (plain .exit)) ≡ promise.openFinish aegis128l (sessionOf s) (now (tag .entry)) (now (plain .entry)) ⌝ }
@@ -136,7 +146,7 @@ pub fn open_finish(s: Session, tag: &[u8], plain: &mut [u8]) -> Finish
     if tag_matches(s, tag) {
         return told(answers::DONE, s.written, crate::ended());
     }
-    lent::wipe(plain, s.written, 0);
+    erase(s, plain);
     told(answers::TAG_DIFFERS, 0, crate::ended())
 }
 
@@ -159,16 +169,6 @@ fn same_buffer_lent(s: Session, held: usize) -> bool
     } else {
         true
     }
-}
-
-// An opener erases what it wrote; other kinds wrote nothing here.
-fn erase(s: Session, plain: &mut [u8])
-    ensures { λ _. ⌜ now (plain .exit) ≡ promise.ifOpening (sessionOf s) (wiped (s .written) 0 (now (plain .entry))) (now (plain .entry)) ⌝ }
-{
-    if s.mark != crate::OPENING {
-        return;
-    }
-    lent::wipe(plain, s.written, 0);
 }
 
 pub fn abort(s: Session, plain: &mut [u8]) -> Piece

@@ -30,7 +30,8 @@ fn advanced(s: Session, c: Core, n: usize) -> Session
 // A piece goes through the machine in place, once nothing is refused.
 fn transformed(s: Session, decrypt: bool, buf: &mut [u8]) -> Session
     requires { ⌜ (s .fill < 32) × (s .«msg_len» + length (now buf) ≤ limit) ⌝ }
-    ensures { λ r. ⌜ (sessionOf r ≡ fedWith decrypt (sessionOf s) (now (buf .entry))) × (now (buf .exit) ≡ outWith decrypt (sessionOf s) (now (buf .entry))) ⌝ }
+    ensures { λ r. ⌜ (sessionOf r ≡ fedWith decrypt (sessionOf s) (now (buf .entry)))
+        × (now (buf .exit) ≡ outWith decrypt (sessionOf s) (now (buf .entry))) ⌝ }
 {
     let t = aes::sbox();
     let c = crate::core_of(s).transform(decrypt, buf, &t);
@@ -40,7 +41,8 @@ fn transformed(s: Session, decrypt: bool, buf: &mut [u8]) -> Session
 // And from one buffer to another of its length.
 fn transformed_into(s: Session, decrypt: bool, src: &[u8], dst: &mut [u8]) -> Session
     requires { ⌜ (s .fill < 32) × ((s .«msg_len» + length (now src) ≤ limit) × (length (now src) ≡ length (now dst))) ⌝ }
-    ensures { λ r. ⌜ (sessionOf r ≡ fedWith decrypt (sessionOf s) (now (src .entry))) × (now (dst .exit) ≡ outWith decrypt (sessionOf s) (now (src .entry))) ⌝ }
+    ensures { λ r. ⌜ (sessionOf r ≡ fedWith decrypt (sessionOf s) (now (src .entry)))
+        × (now (dst .exit) ≡ outWith decrypt (sessionOf s) (now (src .entry))) ⌝ }
 {
     lent::put(src, dst);
     transformed(s, decrypt, dst)

@@ -10,7 +10,6 @@ use mir.Val.{Val, WT, hasTy, vstruct, vcons, vnil}
 use prog.Wp.{Heap}
 use ghost.Atoms.{Atoms}
 use types.Kit.{Given}
-use types.Run.{returns}
 use denote.RattleType.{RattleType}
 use denote.Laws.{Is, Makes}
 use denote.Struct.Laws as LL
@@ -45,11 +44,14 @@ pub record Handing : Type 2 where
   pub oval : X .Denot → Val
   pub told : (r : row .Denot) (w : Val) → Is row r (w ∷ []) → w ≡ vstruct (vcons (oval (out r)) (vcons (mach (session r)) vnil))
   pub parts : (r : row .Denot) (w : Val) → Is row r (w ∷ []) → Is X (out r) (oval (out r) ∷ []) × Is R (session r) (mach (session r) ∷ [])
-  pub typed : {M : Type 1} (𝓤 : URA M) (H : Heap 𝓤) (A : Atoms 𝓤) (W : Given 𝓤 H A) (r : row .Denot) (w : Val) → Is row r (w ∷ []) → Holds (hasTy (tyStruct name (tcons xmir (tcons T′.mir tnil))) w) × WT w
-  pub x-typed : {M : Type 1} (𝓤 : URA M) (H : Heap 𝓤) (A : Atoms 𝓤) (W : Given 𝓤 H A) (x : X .Denot) → Is X x (oval x ∷ []) → Holds (hasTy xmir (oval x)) × WT (oval x)
+  pub typed : {M : Type 1} (𝓤 : URA M) (H : Heap 𝓤) (A : Atoms 𝓤) (W : Given 𝓤 H A) (r : row .Denot) (w : Val) → Is row r (w ∷ [])
+      → Holds (hasTy (tyStruct name (tcons xmir (tcons T′.mir tnil))) w) × WT w
+  pub x-typed : {M : Type 1} (𝓤 : URA M) (H : Heap 𝓤) (A : Atoms 𝓤) (W : Given 𝓤 H A) (x : X .Denot) → Is X x (oval x ∷ [])
+      → Holds (hasTy xmir (oval x)) × WT (oval x)
   pub x-makes : {M : Type 1} (𝓤 : URA M) (H : Heap 𝓤) (A : Atoms 𝓤) (W : Given 𝓤 H A) → Makes 𝓤 H A X (Is X)
 
-pub typed : {M : Type 1} (𝓤 : URA M) (H : Heap 𝓤) (A : Atoms 𝓤) (W : Given 𝓤 H A) (s : Session) → Is R s (mach s ∷ []) → Holds (hasTy T′.mir (mach s)) × WT (mach s)
+pub typed : {M : Type 1} (𝓤 : URA M) (H : Heap 𝓤) (A : Atoms 𝓤) (W : Given 𝓤 H A) (s : Session) → Is R s (mach s ∷ [])
+    → Holds (hasTy T′.mir (mach s)) × WT (mach s)
 typed 𝓤 H A W s is = LL.lawful T.the-type T′.the-laws 𝓤 H A W .typed s _ is .0
 
 module _ (D : Handing) where

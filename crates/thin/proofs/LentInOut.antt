@@ -18,8 +18,10 @@ use base.Fml.{Lft, Share, GName, Fml, ftrue, flft, fobs, fbor, fat}
 use prog.Wp.{Heap, Calls, Loops, WpFn, Tables}
 use ghost.Atoms.{Atoms}
 use contract.Monad.{fact}
-use types.Kit.{Given, ‵, raw, _⊛_, some, later, ⋆, _$_, _∵_, !, qed, by, move, keep, drop, use1, use2, split, join, pick, rewrite, fsplit, fsplit3, fjoin, fjoin3, feqL, feqI, suffices, frame, await, done}
-use types.Run.{look, look-raw, store-raw, init, forget, stop, hop, fld, from, load, addr, of-opd, and-then, no-more, assigns, land, returns, enter, alloc1, alloc0, params1, pass1, pass0, free1, free0}
+use types.Kit.{Given, ‵, raw, _⊛_, some, later, ⋆, _$_, _∵_, !, qed, by, move, keep, drop, use1, use2, split, join, pick, rewrite, fsplit, fsplit3}
+use types.Kit.{fjoin, fjoin3, feqL, feqI, suffices, frame, await, done}
+use types.Run.{look, look-raw, store-raw, init, forget, stop, hop, fld, from, load, addr, of-opd, and-then, no-more, assigns, land, returns, enter}
+use types.Run.{alloc1, alloc0, params1, pass1, pass0, free1, free0}
 use types.Part.{agg, whole, sub, look-in}
 use types.SemTy.{Body}
 use sound.WpLaws.{FmC, fmOf, WpFn-mono}
@@ -38,7 +40,8 @@ use denote.Triple.Spec.{Meets, tripleOf}
 use denote.Triple.Statement.{Contract, Triple}
 use denote.Triple.Call.{calls-at}
 use denote.Triple.Clauses.{Ended, Clauses, ensured, lasts, closing}
-use denote.Triple.Walked.{says, Stays, stay-ref, stay-none-slice, gave-slice, walkOf, goes-ref, goes-none-slice, goes-gave-slice, Walks, ends-at, walked, walk-meets}
+use denote.Triple.Walked.{says, Stays, stay-ref, stay-none-slice, gave-slice, walkOf, goes-ref, goes-none-slice, goes-gave-slice, Walks, ends-at}
+use denote.Triple.Walked.{walked, walk-meets}
 use denote.Exit.{yes}
 use Rattle.session.specs.declared.Session.{Session}
 use Rattle.session.proofs.Session as T
@@ -51,7 +54,8 @@ module _ (D : Handing) where
     lifetimes = 3;
     outlives = [];
     params = 3;
-    locals = v (D .xmir) ∷ v (tyRef (named 0) mut (pointee (R .written))) ∷ v (slice-of (tyRef (named 1) imm (tyInt w8))) ∷ v (slice-of (tyRef (named 2) mut (tyInt w8)))
+    locals = v (D .xmir) ∷ v (tyRef (named 0) mut (pointee (R .written))) ∷ v (slice-of (tyRef (named 1) imm (tyInt w8))) ∷ v
+        (slice-of (tyRef (named 2) mut (tyInt w8)))
         ∷ v (pmir D) ∷ v T′.mir ∷ v (tyRef erased mut (tyInt w8)) ∷ v (slice-of (tyRef erased mut (tyInt w8))) ∷ [];
     body = seq (assign (place 5 []) (rvOpd (copy (place 1 (deref T′.mir ∷ [])))))
         (seq (assign (place 6 []) (addrOf (place 3 (field 0 ∷ deref (tyInt w8) ∷ []))))
@@ -63,13 +67,25 @@ module _ (D : Handing) where
 
   abbrev pub in-out-core-ended : Ended
   in-out-core-ended = record {
-    signature = record { lifetimes = 2; outlives = []; params = plain (λ _. R) ∷ SliceRefOf (0 ∷ []) tt (plain (λ _. u8)) (λ _. tt) ∷ SliceRefMutOf (1 ∷ []) tt (plain (λ _. u8)) (λ _. tt) ∷ []; result = plain (λ _. D .row) };
+    signature = record {
+      lifetimes = 2;
+      outlives = [];
+      params = plain (λ _. R) ∷ SliceRefOf (0 ∷ []) tt (plain (λ _. u8)) (λ _. tt) ∷ SliceRefMutOf
+          (1 ∷ []) tt (plain (λ _. u8)) (λ _. tt) ∷ [];
+      result = plain (λ _. D .row);
+    };
     kept = (yes, (yes, (yes, tt)));
   }
 
   abbrev pub in-out-thin-ended : Ended
   in-out-thin-ended = record {
-    signature = record { lifetimes = 3; outlives = []; params = RefMutOf (0 ∷ []) tt (plain (λ _. R)) (λ _. tt) ∷ SliceRefOf (1 ∷ []) tt (plain (λ _. u8)) (λ _. tt) ∷ SliceRefMutOf (2 ∷ []) tt (plain (λ _. u8)) (λ _. tt) ∷ []; result = plain (λ _. D .X) };
+    signature = record {
+      lifetimes = 3;
+      outlives = [];
+      params = RefMutOf (0 ∷ []) tt (plain (λ _. R)) (λ _. tt) ∷ SliceRefOf (1 ∷ []) tt
+          (plain (λ _. u8)) (λ _. tt) ∷ SliceRefMutOf (2 ∷ []) tt (plain (λ _. u8)) (λ _. tt) ∷ [];
+      result = plain (λ _. D .X);
+    };
     kept = (yes, (yes, (yes, tt)));
   }
 
@@ -77,10 +93,20 @@ module _ (D : Handing) where
   in-out-Effect = Session → List ℕ → List ℕ → D .row .Denot → List ℕ → Type 0
 
   abbrev pub in-out-core-clauses : {M : Type 1} (𝓤 : URA M) → in-out-Effect → Clauses 𝓤 in-out-core-ended
-  in-out-core-clauses 𝓤 E κs a = record { ghost = Unit {0}; requires = λ _. emp 𝓤; ensures = λ _ r e. fact 𝓤 (E (a .0) (now (a .1 .0)) (now (a .1 .1 .0)) r (now (e .1 .1 .0))) }
+  in-out-core-clauses 𝓤 E κs a = record {
+    ghost = Unit {0};
+    requires = λ _. emp 𝓤;
+    ensures = λ _ r e. fact 𝓤
+        (E (a .0) (now (a .1 .0)) (now (a .1 .1 .0)) r (now (e .1 .1 .0)));
+  }
 
   abbrev pub in-out-thin-clauses : {M : Type 1} (𝓤 : URA M) → in-out-Effect → Clauses 𝓤 in-out-thin-ended
-  in-out-thin-clauses 𝓤 E κs a = record { ghost = Unit {0}; requires = λ _. emp 𝓤; ensures = λ _ r e. fact 𝓤 (E (now (a .0)) (now (a .1 .0)) (now (a .1 .1 .0)) (D .both r (now (e .0))) (now (e .1 .1 .0))) }
+  in-out-thin-clauses 𝓤 E κs a = record {
+    ghost = Unit {0};
+    requires = λ _. emp 𝓤;
+    ensures = λ _ r e. fact 𝓤
+        (E (now (a .0)) (now (a .1 .0)) (now (a .1 .1 .0)) (D .both r (now (e .0))) (now (e .1 .1 .0)));
+  }
 
   abbrev pub in-out-Core : {M : Type 1} (𝓤 : URA M) (H : Heap 𝓤) (A : Atoms 𝓤) → in-out-Effect → Contract 𝓤
   in-out-Core 𝓤 H A E = tripleOf 𝓤 H A (in-out-core-ended .signature) (closing 𝓤 H A in-out-core-ended (in-out-core-clauses 𝓤 E))
@@ -88,7 +114,8 @@ module _ (D : Handing) where
   abbrev in-out-stayed : Stays (in-out-thin-ended .signature .params) (in-out-thin-ended .kept)
   in-out-stayed = (stay-ref (0 ∷ []) tt (plain (λ _. R)), (stay-none-slice (1 ∷ []) tt (plain (λ _. u8)) yes, (gave-slice (2 ∷ []) tt (plain (λ _. u8)), tt)))
 
-  module _ {M : Type 1} (𝓤 : URA M) (H : Heap 𝓤) (A : Atoms 𝓤) (W : Given 𝓤 H A) (E : in-out-Effect) (κ κ₁ κ₂ : Lft) (q q₁ q₂ : Share) (b o : ℕ) (γ : GName) (h : Session) (x y : RefT (List ℕ)) where
+  module _ {M : Type 1} (𝓤 : URA M) (H : Heap 𝓤) (A : Atoms 𝓤) (W : Given 𝓤 H A) (E : in-out-Effect) (κ κ₁ κ₂ : Lft) (q q₁ q₂ : Share) (b o : ℕ)
+      (γ : GName) (h : Session) (x y : RefT (List ℕ)) where
     abbrev in-out-a : RefT Session × (RefT (List ℕ) × (RefT (List ℕ) × Unit {0}))
     in-out-a = (record { ptr = (b, o); name = γ; now = h }, (x, (y, tt)))
 
@@ -96,7 +123,8 @@ module _ (D : Handing) where
     in-out-vals = (vptr b o ∷ [], (slice-vals x, (slice-vals y, tt)))
 
     abbrev in-out-Post : Val → SProp 𝓤
-    in-out-Post = walkOf 𝓤 H A in-out-thin-ended in-out-stayed (in-out-thin-clauses 𝓤 E) .post (((κ, (κ₁, (κ₂, tt))), (q, (q₁, (q₂, tt))), tt, in-out-a, in-out-vals), tt)
+    in-out-Post = walkOf 𝓤 H A in-out-thin-ended in-out-stayed (in-out-thin-clauses 𝓤 E) .post
+        (((κ, (κ₁, (κ₂, tt))), (q, (q₁, (q₂, tt))), tt, in-out-a, in-out-vals), tt)
 
     abbrev in-out-to-core : in-out-Core 𝓤 H A E .Ghost
     in-out-to-core = (((κ₁, (κ₂, tt)), (q₁, (q₂, tt)), tt, (h, (x, (y, tt))), (mach h ∷ [], (slice-vals x, (slice-vals y, tt)))), tt)
@@ -111,55 +139,97 @@ module _ (D : Handing) where
     in-out-Ox = ShrSlice (named 1) κ₁ u8 .own x (slice-vals x)
 
     in-out-exits : (r : D .row .Denot) (zs : List ℕ) → Is (D .X) (D .out r) (D .oval (D .out r) ∷ []) → E h (now x) (now y) r zs → length zs ≡ length (now y)
-        → ent 𝓤 (⋆ 𝓤 H A (‵ (fobs γ (R .coded .code (D .session r))) ∷ ‵ (fbor κ (Body (mem R) b o γ)) ∷ ‵ (flft κ q) ∷ (‵ (flft κ₁ q₁) ⊛ ‵ (flft κ₂ q₂) ⊛ ‵ ftrue) ∷ ‵ (finally u8 (y .name) zs) ∷ ‵ in-out-Ox ∷ [])) (in-out-Post (D .oval (D .out r)))
+        → ent 𝓤 (⋆ 𝓤 H A (‵ (fobs γ (R .coded .code (D .session r))) ∷ ‵ (fbor κ (Body (mem R) b o γ)) ∷ ‵
+        (flft κ q) ∷ (‵ (flft κ₁ q₁) ⊛ ‵ (flft κ₂ q₂) ⊛ ‵ ftrue) ∷ ‵ (finally u8 (y .name) zs) ∷ ‵ in-out-Ox ∷ [])) (in-out-Post (D .oval (D .out r)))
     in-out-exits r zs xis e l =
-        qed W (‵ (fobs γ (R .coded .code (D .session r))) ∷ ‵ (fbor κ (Body (mem R) b o γ)) ∷ ‵ (flft κ q) ∷ (‵ (flft κ₁ q₁) ⊛ ‵ (flft κ₂ q₂) ⊛ ‵ ftrue) ∷ ‵ (finally u8 (y .name) zs) ∷ ‵ in-out-Ox ∷ []) ∵
-        suffices ! _ (ends-at 𝓤 H A in-out-thin-ended in-out-stayed (in-out-thin-clauses 𝓤 E) W (((κ, (κ₁, (κ₂, tt))), (q, (q₁, (q₂, tt))), tt, in-out-a, in-out-vals), tt) (D .oval (D .out r)) (D .out r) (D .session r, (tt, (zs, tt))) (tt, (tt, (l, tt)))) $ says ! (subst (λ (p : D .row .Denot). E h (now x) (now y) p zs) (sym (D .eta r)) e) $
+        qed W (‵ (fobs γ (R .coded .code (D .session r))) ∷ ‵ (fbor κ (Body (mem R) b o γ)) ∷ ‵
+        (flft κ q) ∷ (‵ (flft κ₁ q₁) ⊛ ‵ (flft κ₂ q₂) ⊛ ‵ ftrue) ∷ ‵ (finally u8 (y .name) zs) ∷ ‵ in-out-Ox ∷ []) ∵
+        suffices ! _ (ends-at 𝓤 H A in-out-thin-ended in-out-stayed (in-out-thin-clauses 𝓤 E) W
+        (((κ, (κ₁, (κ₂, tt))), (q, (q₁, (q₂, tt))), tt, in-out-a, in-out-vals), tt) (D .oval (D .out r)) (D .out r) (D .session r, (tt, (zs, tt)))
+        (tt, (tt, (l, tt)))) $ says ! (subst (λ (p : D .row .Denot). E h (now x) (now y) p zs) (sym (D .eta r)) e) $
         move ! (2 ∷ 3 ∷ []) $ join ! $ frame ! $ feqI ! (List Val) (vptr b o ∷ []) (vptr b o ∷ []) refl $ fjoin3 ! $
         -- [what s owns; y's last list; what x owns]
-        nothing ! $ move ! (2 ∷ 0 ∷ []) $ fjoin ! $ move ! (2 ∷ 0 ∷ []) $ fjoin ! $ move ! (1 ∷ 0 ∷ []) $ fjoin ! $ owned ! (D .X) (Is (D .X)) (D .x-makes 𝓤 H A W) (D .out r) _ xis $ move ! (1 ∷ 0 ∷ []) $ done !
+        nothing ! $ move ! (2 ∷ 0 ∷ []) $ fjoin ! $ move ! (2 ∷ 0 ∷ []) $ fjoin ! $ move ! (1 ∷ 0 ∷ []) $ fjoin ! $
+        owned ! (D .X) (Is (D .X)) (D .x-makes 𝓤 H A W) (D .out r) _ xis $ move ! (1 ∷ 0 ∷ []) $ done !
 
     module _ (C : Calls 𝓤 H) (Λ : Loops 𝓤 H) (fm : FmC 𝓤 H (W .laws) C) (k : Name) (known : Triple 𝓤 (C k) (in-out-Core 𝓤 H A E)) where
-      in-out-walk : Room u8 (length (now x)) → Room u8 (length (now y)) → ent 𝓤 (onEntry 𝓤 H A (in-out-thin-ended .signature) (κ, (κ₁, (κ₂, tt))) (q, (q₁, (q₂, tt))) in-out-a in-out-vals) (WpFn 𝓤 H C Λ (in-out-body-of k) (vptr b o ∷ only (slice-vals x) ∷ only (slice-vals y) ∷ []) in-out-Post)
+      in-out-walk : Room u8 (length (now x)) → Room u8 (length (now y))
+          → ent 𝓤 (onEntry 𝓤 H A (in-out-thin-ended .signature) (κ, (κ₁, (κ₂, tt))) (q, (q₁, (q₂, tt))) in-out-a in-out-vals)
+          (WpFn 𝓤 H C Λ (in-out-body-of k) (vptr b o ∷ only (slice-vals x) ∷ only (slice-vals y) ∷ []) in-out-Post)
       in-out-walk rx ry =
-          qed W ((‵ (flft κ q) ⊛ ‵ (flft κ₁ q₁) ⊛ ‵ (flft κ₂ q₂) ⊛ ‵ ftrue) ∷ ‵ (owns (MutRef (named 0) κ R ∷ ShrSlice (named 1) κ₁ u8 ∷ MutSlice (named 2) κ₂ u8 ∷ []) in-out-a in-out-vals) ∷ []) ∵
+          qed W ((‵ (flft κ q) ⊛ ‵ (flft κ₁ q₁) ⊛ ‵ (flft κ₂ q₂) ⊛ ‵ ftrue) ∷ ‵
+          (owns (MutRef (named 0) κ R ∷ ShrSlice (named 1) κ₁ u8 ∷ MutSlice (named 2) κ₂ u8 ∷ []) in-out-a in-out-vals) ∷ []) ∵
           split ! $ move ! (2 ∷ []) $ fsplit ! $ fsplit3 ! $ drop ! $ move ! (0 ∷ 1 ∷ 3 ∷ []) $
           -- [obs; the borrow; its token; what x and y own; their tokens]
           enter ! C Λ (in-out-body-of k) (vptr b o ∷ only (slice-vals x) ∷ only (slice-vals y) ∷ []) _ $
           alloc1 ! (λ l₀. alloc1 ! (λ l₁. alloc1 ! (λ l₂. alloc1 ! (λ l₃. alloc1 ! (λ l₄. alloc1 ! (λ l₅. alloc1 ! (λ l₆. alloc1 ! (λ l₇. alloc0 ! $ params1 ! $
-          pass1 ! (init ! 12 refl (tt, tt)) $ pass1 ! (init ! 10 refl (tt, (tt, (record { fits = rx .0 }, tt)))) $ pass1 ! (init ! 8 refl (tt, (tt, (record { fits = ry .0 }, tt)))) $ pass0 ! $
-          move ! (16 ∷ 17 ∷ 18 ∷ []) $ opens ! tt R {h = h} b o (λ vs. spelt ! R (Is R) (shows 𝓤 H A R) (LL.vals T.the-type T′.the-laws) (LL.tells T.the-type T′.the-laws) fullShare h vs b o $
+          pass1 ! (init ! 12 refl (tt, tt)) $ pass1 ! (init ! 10 refl (tt, (tt, (record { fits = rx .0 }, tt)))) $
+          pass1 ! (init ! 8 refl (tt, (tt, (record { fits = ry .0 }, tt)))) $ pass0 ! $
+          move ! (16 ∷ 17 ∷ 18 ∷ []) $
+          opens ! tt R {h = h} b o (λ vs. spelt ! R (Is R) (shows 𝓤 H A R) (LL.vals T.the-type T′.the-laws)
+          (LL.tells T.the-type T′.the-laws) fullShare h vs b o $
           move ! (1 ∷ []) $ peeks ! R (Is R) (shows 𝓤 H A R) h (mach h ∷ []) (λ was. move ! (1 ∷ 0 ∷ []) $
-          -- [the session's cell; what it owns; the open borrow; obs; auth; _7 (5); …; _6; …; _5; …; _4; …; _3 (13); …; _2; …; _1; …; room for _0; …; what x and y own (21); their tokens]
+          -- [the session's cell; what it owns; the open borrow; obs; auth; _7 (5); …; _6; …; _5; …; _4; …; _3 (13); …; _2; …; _1; …; room for _0; …;
+          -- what x and y own (21); their tokens]
           assigns ! (of-opd ! (load ! (from ! (hop ! (look ! 17 refl) (stop !))) (look-raw ! 0 refl))) (from ! (stop !)) (init ! 9 refl (typed 𝓤 H A W h was)) $
           assigns ! (addr ! (from ! (fld ! refl (hop ! (look-in ! 13 (sub ! 0 refl (whole !))) (stop !))))) (from ! (stop !)) (init ! 7 refl (tt, tt)) $
-          assigns ! (agg ! (and-then ! (load ! (from ! (stop !)) (look ! 7 refl)) (and-then ! (load ! (from ! (fld ! refl (stop !))) (look-in ! 13 (sub ! 1 refl (whole !)))) (no-more !)))) (from ! (stop !)) (init ! 5 refl (tt, (tt, (record { fits = ry .0 }, tt)))) $
-          move ! (21 ∷ []) $ fsplit ! $ use1 W (‵ in-out-Ox ⊛ ‵ in-out-Ox) (shr-slice-copy 𝓤 H A W (named 1) κ₁ u8 .twice x (slice-vals x)) $ split ! $ move ! (1 ∷ 2 ∷ []) $ fjoin ! $ move ! (3 ∷ 0 ∷ []) $ fjoin ! $
+          assigns ! (agg ! (and-then ! (load ! (from ! (stop !)) (look ! 7 refl))
+          (and-then ! (load ! (from ! (fld ! refl (stop !))) (look-in ! 13 (sub ! 1 refl (whole !)))) (no-more !)))) (from ! (stop !))
+          (init ! 5 refl (tt, (tt, (record { fits = ry .0 }, tt)))) $
+          move ! (21 ∷ []) $ fsplit ! $ use1 W (‵ in-out-Ox ⊛ ‵ in-out-Ox) (shr-slice-copy 𝓤 H A W (named 1) κ₁ u8 .twice x (slice-vals x)) $
+          split ! $ move ! (1 ∷ 2 ∷ []) $ fjoin ! $ move ! (3 ∷ 0 ∷ []) $ fjoin ! $
           -- [what h, x and y own; what x owns; the session's cell; the open borrow; obs; auth; _7 (6); …; _5 (10); …; _2 (16); …; _0 (20); …; the tokens]
           move ! (22 ∷ 0 ∷ []) $ use2 W (raw (in-out-Core 𝓤 H A E .pre in-out-to-core)) in-out-goes $
-          calls-at ! fm (in-out-Core 𝓤 H A E) known in-out-to-core (and-then ! (load ! (from ! (stop !)) (look ! 10 refl)) (and-then ! (load ! (from ! (stop !)) (look ! 16 refl)) (and-then ! (load ! (from ! (stop !)) (look ! 6 refl)) (no-more !)))) (λ w.
-          use1 W (later (some (λ (r : D .row .Denot). ((‵ (flft κ₁ q₁) ⊛ ‵ (flft κ₂ q₂) ⊛ ‵ ftrue) ⊛ ‵ (D .row .own r (w ∷ []))) ⊛ raw (ensured 𝓤 H A in-out-core-ended (in-out-core-clauses 𝓤 E) (κ₁, (κ₂, tt)) (h, (x, (y, tt))) tt r)))) (id⊢ 𝓤 _) $ await ! tt $ pick ! (λ r.
+          calls-at ! fm (in-out-Core 𝓤 H A E) known in-out-to-core
+          (and-then ! (load ! (from ! (stop !)) (look ! 10 refl))
+          (and-then ! (load ! (from ! (stop !)) (look ! 16 refl)) (and-then ! (load ! (from ! (stop !)) (look ! 6 refl)) (no-more !)))) (λ w.
+          use1 W (later (some (λ (r : D .row .Denot). ((‵ (flft κ₁ q₁) ⊛ ‵ (flft κ₂ q₂) ⊛ ‵ ftrue) ⊛ ‵ (D .row .own r (w ∷ []))) ⊛ raw
+          (ensured 𝓤 H A in-out-core-ended (in-out-core-clauses 𝓤 E) (κ₁, (κ₂, tt)) (h, (x, (y, tt))) tt r)))) (id⊢ 𝓤 _) $ await ! tt $ pick ! (λ r.
           -- what core ensures, at some last list
-          split ! $ move ! (1 ∷ []) $ use1 W (some (λ (zs : Unit {0} × (Unit {0} × (List ℕ × Unit {0}))). ‵ (lasts in-out-core-ended (κ₁, (κ₂, tt)) (h, (x, (y, tt))) zs) ⊛ raw (fact 𝓤 (E h (now x) (now y) r (zs .1 .1 .0))))) (id⊢ 𝓤 _) $ pick ! (λ zs.
-          split ! $ move ! (1 ∷ []) $ heard ! (E h (now x) (now y) r (zs .1 .1 .0)) (λ e. fsplit ! $ move ! (1 ∷ []) $ fsplit ! $ move ! (1 ∷ []) $ fsplit ! $ fsplit ! $ move ! (1 ∷ []) $ feqL ! (λ l.
+          split ! $ move ! (1 ∷ []) $
+          use1 W (some (λ (zs : Unit {0} × (Unit {0} × (List ℕ × Unit {0}))). ‵ (lasts in-out-core-ended (κ₁, (κ₂, tt)) (h, (x, (y, tt))) zs) ⊛ raw
+          (fact 𝓤 (E h (now x) (now y) r (zs .1 .1 .0))))) (id⊢ 𝓤 _) $ pick ! (λ zs.
+          split ! $ move ! (1 ∷ []) $ heard ! (E h (now x) (now y) r (zs .1 .1 .0)) (λ e. fsplit ! $ move ! (1 ∷ []) $ fsplit ! $ move ! (1 ∷ []) $
+          fsplit ! $ fsplit ! $ move ! (1 ∷ []) $ feqL ! (λ l.
           -- [y's last list; …; …; …; the tokens and the result (4); what x owns; the session's cell; …]
           move ! (4 ∷ []) $ split ! $ move ! (1 ∷ []) $ peeks ! (D .row) (Is (D .row)) (shows 𝓤 H A (D .row)) r (w ∷ []) (λ is.
           let fields = D .parts r w is in
-          land ! (from ! (stop !)) (init ! 17 refl (D .typed 𝓤 H A W r w is)) $ rewrite ! 17 (λ (u : Val). ‵ (fat fullShare (pmir D) l₄ 0 u)) (D .told r w is) refl $
-          assigns ! (of-opd ! (load ! (from ! (fld ! refl (stop !))) (look-in ! 17 (sub ! 1 refl (whole !))))) (from ! (hop ! (look ! 23 refl) (stop !))) (store-raw ! 7 refl (typed 𝓤 H A W (D .session r) (fields .1))) $
-          assigns ! (of-opd ! (load ! (from ! (fld ! refl (stop !))) (look-in ! 17 (sub ! 0 refl (whole !))))) (from ! (stop !)) (init ! 25 refl (D .x-typed 𝓤 H A W (D .out r) (fields .0))) $
-          drop ! $ owned ! R (Is R) (LL.makes T.the-type T′.the-plain 𝓤 H A) (D .session r) _ (fields .1) $ move ! (7 ∷ 0 ∷ 8 ∷ 9 ∷ 10 ∷ []) $ closes ! tt R (D .session r) (mach (D .session r) ∷ []) b o $
+          land ! (from ! (stop !)) (init ! 17 refl (D .typed 𝓤 H A W r w is)) $
+          rewrite ! 17 (λ (u : Val). ‵ (fat fullShare (pmir D) l₄ 0 u)) (D .told r w is) refl $
+          assigns ! (of-opd ! (load ! (from ! (fld ! refl (stop !))) (look-in ! 17 (sub ! 1 refl (whole !)))))
+          (from ! (hop ! (look ! 23 refl) (stop !))) (store-raw ! 7 refl (typed 𝓤 H A W (D .session r) (fields .1))) $
+          assigns ! (of-opd ! (load ! (from ! (fld ! refl (stop !))) (look-in ! 17 (sub ! 0 refl (whole !))))) (from ! (stop !))
+          (init ! 25 refl (D .x-typed 𝓤 H A W (D .out r) (fields .0))) $
+          drop ! $ owned ! R (Is R) (LL.makes T.the-type T′.the-plain 𝓤 H A) (D .session r) _ (fields .1) $ move ! (7 ∷ 0 ∷ 8 ∷ 9 ∷ 10 ∷ []) $
+          closes ! tt R (D .session r) (mach (D .session r) ∷ []) b o $
           -- [obs; the borrow; its token; the tokens; y's last list; …; …; …; what x owns (8); _7 (9); …; _0 (23); …]
-          returns ! (look ! 23 refl) $ forget ! 9 refl $ forget ! 11 refl $ forget ! 13 refl $ forget ! 15 refl $ forget ! 17 refl $ forget ! 19 refl $ forget ! 21 refl $ forget ! 23 refl $
-          move ! (23 ∷ 24 ∷ []) $ free1 ! $ move ! (21 ∷ 22 ∷ []) $ free1 ! $ move ! (19 ∷ 20 ∷ []) $ free1 ! $ move ! (17 ∷ 18 ∷ []) $ free1 ! $ move ! (15 ∷ 16 ∷ []) $ free1 ! $ move ! (13 ∷ 14 ∷ []) $ free1 ! $ move ! (11 ∷ 12 ∷ []) $ free1 ! $ move ! (9 ∷ 10 ∷ []) $ free1 ! $ free0 ! $
+          returns ! (look ! 23 refl) $ forget ! 9 refl $ forget ! 11 refl $ forget ! 13 refl $ forget ! 15 refl $ forget ! 17 refl $
+          forget ! 19 refl $ forget ! 21 refl $ forget ! 23 refl $
+          move ! (23 ∷ 24 ∷ []) $ free1 ! $ move ! (21 ∷ 22 ∷ []) $ free1 ! $ move ! (19 ∷ 20 ∷ []) $ free1 ! $ move ! (17 ∷ 18 ∷ []) $ free1 ! $
+          move ! (15 ∷ 16 ∷ []) $ free1 ! $ move ! (13 ∷ 14 ∷ []) $ free1 ! $ move ! (11 ∷ 12 ∷ []) $ free1 ! $ move ! (9 ∷ 10 ∷ []) $ free1 ! $
+          free0 ! $
           keep ! (0 ∷ 1 ∷ 2 ∷ 3 ∷ 4 ∷ 8 ∷ []) $ by ! (in-out-exits r (zs .1 .1 .0) (fields .0) e l)))))))))))))))))
 
   module _ {M : Type 1} (𝓤 : URA M) (H : Heap 𝓤) (A : Atoms 𝓤) (W : Given 𝓤 H A) (E : in-out-Effect) (k : Name) where
-    in-out-walks : (C : Calls 𝓤 H) (Λ : Loops 𝓤 H) → FmC 𝓤 H (W .laws) C → Triple 𝓤 (C k) (in-out-Core 𝓤 H A E) → Walks 𝓤 H A in-out-thin-ended in-out-stayed (WpFn 𝓤 H C Λ (in-out-body-of k)) (in-out-thin-clauses 𝓤 E)
-    in-out-walks C Λ fm known = walked 𝓤 H A in-out-thin-ended in-out-stayed (in-out-thin-clauses 𝓤 E) (WpFn 𝓤 H C Λ (in-out-body-of k)) (λ κs. (ptr-vals, (slice-vals, (slice-vals, tt)))) (λ κs. (mut-tells (named 0) (κs .0) R, (shr-slice-tells (named 1) (κs .1 .0) u8, (mut-slice-tells (named 2) (κs .1 .1 .0) u8, tt))))
-        (λ κs qs bounds a g are. via 𝓤 _ (fst∗ 𝓤 _ (emp 𝓤)) (in-out-walk 𝓤 H A W E (κs .0) (κs .1 .0) (κs .1 .1 .0) (qs .0) (qs .1 .0) (qs .1 .1 .0) (a .0 .ptr .0) (a .0 .ptr .1) (a .0 .name) (a .0 .now) (a .1 .0) (a .1 .1 .0) C Λ fm k known (are .1 .0 .0 .1) (are .1 .1 .0 .0 .1)))
+    in-out-walks : (C : Calls 𝓤 H) (Λ : Loops 𝓤 H) → FmC 𝓤 H (W .laws) C → Triple 𝓤 (C k) (in-out-Core 𝓤 H A E)
+        → Walks 𝓤 H A in-out-thin-ended in-out-stayed (WpFn 𝓤 H C Λ (in-out-body-of k)) (in-out-thin-clauses 𝓤 E)
+    in-out-walks C Λ fm known = walked 𝓤 H A in-out-thin-ended in-out-stayed (in-out-thin-clauses 𝓤 E) (WpFn 𝓤 H C Λ (in-out-body-of k))
+        (λ κs. (ptr-vals, (slice-vals, (slice-vals, tt))))
+        (λ κs. (mut-tells (named 0) (κs .0) R, (shr-slice-tells (named 1) (κs .1 .0) u8, (mut-slice-tells (named 2) (κs .1 .1 .0) u8, tt))))
+        (λ κs qs bounds a g are. via 𝓤 _ (fst∗ 𝓤 _ (emp 𝓤))
+        (in-out-walk 𝓤 H A W E (κs .0) (κs .1 .0) (κs .1 .1 .0) (qs .0) (qs .1 .0) (qs .1 .1 .0) (a .0 .ptr .0) (a .0 .ptr .1) (a .0 .name)
+        (a .0 .now) (a .1 .0) (a .1 .1 .0) C Λ fm k known (are .1 .0 .0 .1) (are .1 .1 .0 .0 .1)))
 
-    pub in-out-lent-meets : (𝓣 : Tables 𝓤 H) → Triple 𝓤 (𝓣 .C k) (in-out-Core 𝓤 H A E) → Meets 𝓤 H A (in-out-thin-ended .signature) (WpFn 𝓤 H (𝓣 .C) (𝓣 .Λ) (in-out-body-of k)) (closing 𝓤 H A in-out-thin-ended (in-out-thin-clauses 𝓤 E))
+    pub in-out-lent-meets : (𝓣 : Tables 𝓤 H) → Triple 𝓤 (𝓣 .C k) (in-out-Core 𝓤 H A E)
+        → Meets 𝓤 H A (in-out-thin-ended .signature) (WpFn 𝓤 H (𝓣 .C) (𝓣 .Λ) (in-out-body-of k))
+        (closing 𝓤 H A in-out-thin-ended (in-out-thin-clauses 𝓤 E))
     in-out-lent-meets 𝓣 known =
-        walk-meets 𝓤 H A in-out-thin-ended in-out-stayed W (goes-ref 𝓤 H A W 3 0 tt (plain (λ _. R)), (goes-none-slice 𝓤 H A W 3 (1 ∷ []) tt (plain (λ _. u8)) yes, (goes-gave-slice 𝓤 H A W 3 2 tt (plain (λ _. u8)), tt))) (in-out-thin-clauses 𝓤 E)
+        walk-meets 𝓤 H A in-out-thin-ended in-out-stayed W (
+          goes-ref 𝓤 H A W 3 0 tt (plain (λ _. R)),
+          (
+            goes-none-slice 𝓤 H A W 3 (1 ∷ []) tt
+                (plain (λ _. u8)) yes,
+            (goes-gave-slice 𝓤 H A W 3 2 tt (plain (λ _. u8)), tt),
+          ),
+        ) (in-out-thin-clauses 𝓤 E)
         (WpFn 𝓤 H (𝓣 .C) (𝓣 .Λ) (in-out-body-of k)) (WpFn-mono 𝓤 H (W .laws) 𝓣 (in-out-body-of k)) (in-out-walks (𝓣 .C) (𝓣 .Λ) (fmOf 𝓤 H (W .laws) 𝓣) known)

@@ -10,7 +10,8 @@ use session::Session;
 
 #[no_mangle]
 pub extern "C" fn aegis128l_seal_piece(s: &mut Session, msg: &[u8], out: &mut [u8]) -> u8
-    ensures { λ r. ⌜ wroteOf (piece r (now (s .exit))) (now (out .exit)) ≡ promise.sealPiece aegis128l (sessionOf (now (s .entry))) (now (msg .entry)) (now (out .entry)) ⌝ }
+    ensures { λ r. ⌜ wroteOf (piece r (now (s .exit))) (now (out .exit))
+        ≡ promise.sealPiece aegis128l (sessionOf (now (s .entry))) (now (msg .entry)) (now (out .entry)) ⌝ }
 {
     let r = session::pieces::seal_piece(*s, msg, out);
     *s = r.session;
@@ -19,7 +20,8 @@ pub extern "C" fn aegis128l_seal_piece(s: &mut Session, msg: &[u8], out: &mut [u
 
 #[no_mangle]
 pub extern "C" fn aegis128l_seal_piece_in_place(s: &mut Session, buf: &mut [u8]) -> u8
-    ensures { λ r. ⌜ wroteOf (piece r (now (s .exit))) (now (buf .exit)) ≡ promise.sealPieceInPlace aegis128l (sessionOf (now (s .entry))) (now (buf .entry)) ⌝ }
+    ensures { λ r. ⌜ wroteOf (piece r (now (s .exit))) (now (buf .exit))
+        ≡ promise.sealPieceInPlace aegis128l (sessionOf (now (s .entry))) (now (buf .entry)) ⌝ }
 {
     let r = session::pieces::seal_piece_in_place(*s, buf);
     *s = r.session;
@@ -28,7 +30,8 @@ pub extern "C" fn aegis128l_seal_piece_in_place(s: &mut Session, buf: &mut [u8])
 
 #[no_mangle]
 pub extern "C" fn aegis128l_seal_finish(s: &mut Session, tag: &mut [u8]) -> u8
-    ensures { λ r. ⌜ wroteOf (piece r (now (s .exit))) (now (tag .exit)) ≡ promise.sealFinish aegis128l (sessionOf (now (s .entry))) (now (tag .entry)) ⌝ }
+    ensures { λ r. ⌜ wroteOf (piece r (now (s .exit))) (now (tag .exit))
+        ≡ promise.sealFinish aegis128l (sessionOf (now (s .entry))) (now (tag .entry)) ⌝ }
 {
     let r = session::finishes::seal_finish(*s, tag);
     *s = r.session;
@@ -37,7 +40,8 @@ pub extern "C" fn aegis128l_seal_finish(s: &mut Session, tag: &mut [u8]) -> u8
 
 #[no_mangle]
 pub extern "C" fn aegis128l_open_piece(s: &mut Session, ct: &[u8], plain: &mut [u8]) -> u8
-    ensures { λ r. ⌜ wroteOf (piece r (now (s .exit))) (now (plain .exit)) ≡ promise.openPiece aegis128l (sessionOf (now (s .entry))) (now (ct .entry)) (now (plain .entry)) ⌝ }
+    ensures { λ r. ⌜ wroteOf (piece r (now (s .exit))) (now (plain .exit))
+        ≡ promise.openPiece aegis128l (sessionOf (now (s .entry))) (now (ct .entry)) (now (plain .entry)) ⌝ }
 {
     let r = session::pieces::open_piece(*s, ct, plain);
     *s = r.session;
@@ -46,7 +50,8 @@ pub extern "C" fn aegis128l_open_piece(s: &mut Session, ct: &[u8], plain: &mut [
 
 #[no_mangle]
 pub extern "C" fn aegis128l_open_finish(s: &mut Session, tag: &[u8], plain: &mut [u8]) -> Opened
-    ensures { λ r. ⌜ openedOf (finish r (now (s .exit))) (now (plain .exit)) ≡ promise.openFinish aegis128l (sessionOf (now (s .entry))) (now (tag .entry)) (now (plain .entry)) ⌝ }
+    ensures { λ r. ⌜ openedOf (finish r (now (s .exit))) (now (plain .exit))
+        ≡ promise.openFinish aegis128l (sessionOf (now (s .entry))) (now (tag .entry)) (now (plain .entry)) ⌝ }
 {
     let r = session::finishes::open_finish(*s, tag, plain);
     *s = r.session;
@@ -55,7 +60,8 @@ pub extern "C" fn aegis128l_open_finish(s: &mut Session, tag: &[u8], plain: &mut
 
 #[no_mangle]
 pub extern "C" fn aegis128l_abort(s: &mut Session, plain: &mut [u8]) -> u8
-    ensures { λ r. ⌜ wroteOf (piece r (now (s .exit))) (now (plain .exit)) ≡ promise.abort aegis128l (sessionOf (now (s .entry))) (now (plain .entry)) ⌝ }
+    ensures { λ r. ⌜ wroteOf (piece r (now (s .exit))) (now (plain .exit))
+        ≡ promise.abort aegis128l (sessionOf (now (s .entry))) (now (plain .entry)) ⌝ }
 {
     let r = session::finishes::abort(*s, plain);
     *s = r.session;
@@ -64,7 +70,8 @@ pub extern "C" fn aegis128l_abort(s: &mut Session, plain: &mut [u8]) -> u8
 
 #[no_mangle]
 pub extern "C" fn aegis128l_mac_piece(s: &mut Session, data: &[u8]) -> u8
-    ensures { λ r. ⌜ handedOf (piece r (now (s .exit))) ≡ promise.macPiece aegis128l (sessionOf (now (s .entry))) (now («data» .entry)) ⌝ }
+    ensures { λ r. ⌜ handedOf (piece r (now (s .exit)))
+        ≡ promise.macPiece aegis128l (sessionOf (now (s .entry))) (now («data» .entry)) ⌝ }
 {
     let r = session::pieces::mac_piece(*s, data);
     *s = r.session;
@@ -73,7 +80,8 @@ pub extern "C" fn aegis128l_mac_piece(s: &mut Session, data: &[u8]) -> u8
 
 #[no_mangle]
 pub extern "C" fn aegis128l_mac_finish(s: &mut Session, tag: &mut [u8]) -> u8
-    ensures { λ r. ⌜ wroteOf (piece r (now (s .exit))) (now (tag .exit)) ≡ promise.macFinish aegis128l (sessionOf (now (s .entry))) (now (tag .entry)) ⌝ }
+    ensures { λ r. ⌜ wroteOf (piece r (now (s .exit))) (now (tag .exit))
+        ≡ promise.macFinish aegis128l (sessionOf (now (s .entry))) (now (tag .entry)) ⌝ }
 {
     let r = session::finishes::mac_finish(*s, tag);
     *s = r.session;
@@ -82,7 +90,8 @@ pub extern "C" fn aegis128l_mac_finish(s: &mut Session, tag: &mut [u8]) -> u8
 
 #[no_mangle]
 pub extern "C" fn aegis128l_mac_finish_check(s: &mut Session, tag: &[u8]) -> u8
-    ensures { λ r. ⌜ handedOf (piece r (now (s .exit))) ≡ promise.macFinishCheck aegis128l (sessionOf (now (s .entry))) (now (tag .entry)) ⌝ }
+    ensures { λ r. ⌜ handedOf (piece r (now (s .exit)))
+        ≡ promise.macFinishCheck aegis128l (sessionOf (now (s .entry))) (now (tag .entry)) ⌝ }
 {
     let r = session::finishes::mac_finish_check(*s, tag);
     *s = r.session;

@@ -1,6 +1,5 @@
 -- `mac_finish_check` meets its contract: the ladder refuses, or the tags are compared and the session ended.
 -- Assumes nothing.
-use mathlib.Core.Path.{refl}
 use mathlib.Core.Bool.{true, false}
 use borrow.Author.Needs.{needs}
 use Rattle.aegis128l.specs.Cipher.{aegis128l}

@@ -31,10 +31,10 @@ returns-2 c =
 returns-3 : tie.Need-returns-3
 returns-3 c =
     let tested = c .before .before .before .before .before .before .before .before in
-    ap (λ (r : Finish). openedOf r (c .before .before .before .before .wipe .last .0)) (c .told3 .ensures)
+    ap (λ (r : Finish). openedOf r (c .before .before .before .before .erase .last .1 .0)) (c .told3 .ensures)
     ∙ open-erased aegis128l _ _ _ _ _ (tested .before .before .live .ensures) (tested .before .open-finish .ensures) (tested .if1 .left)
     _ (c .before .before .before .before .before .before .before .tag-matches .ensures) _ (c .before .ended2 .ensures)
-    (c .before .before .before .before .before .before .if2 .left) _ (c .before .before .before .before .wipe .ensures)
+    (c .before .before .before .before .before .before .if2 .left) _ (c .before .before .before .before .erase .ensures)
 
 pub open-finish-spec : {M : Type 1} → statement M
 open-finish-spec =
