@@ -8,7 +8,7 @@ use native.Mathlib.Nat.{not-suc-le-zero, pow-suc}
 use native.Mathlib.Numerals.{add-one}
 use native.Mathlib.Omega.{arith}
 use lib.Dec.{ltb, eqb}
-use lib.ListN.{length, drop, getD, set, length-append, length-set, drop-of-length-le}
+use lib.ListN.{length, drop, set, length-append, length-set, drop-of-length-le}
 use lib.Seq.{drop-cons, getD-set-same, drop-set-lt}
 use borrow.Author.Tests.{ltb-true, ltb-false, eq-eqb, ne-eqb, eqb-false}
 use Rattle.hub_record.specs.Decimal.{digits, decimal}

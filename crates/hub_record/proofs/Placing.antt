@@ -7,13 +7,13 @@ use mathlib.Core.List.{List, _++_, append-assoc}
 use native.Mathlib.Nat.{zero-sub}
 use native.Mathlib.Omega.{arith}
 use lib.ListN.{length, take, drop, length-append, length-drop, take-append-drop}
-use lib.Seq.{take-all, drop-drop, drop-at, length-take-le}
+use lib.Seq.{take-all, drop-at, length-take-le}
 use borrow.Author.Tests.{le-leb, lt-leb}
 use borrow.Rule.Slice.PartMut.{putMid, post-is, mid-len}
 use Rattle.lent.specs.Lent.{over}
 use Rattle.lent.proofs.Over.{over-same, over-fits}
 use Rattle.hub_record.specs.Record.{between}
-use Rattle.hub_record.specs.Reply.{Replied, placed}
+use Rattle.hub_record.specs.Reply.{placed}
 
 -- what stands from place `from` on, to the end
 pub to-end : (text : List ℕ) {t : List ℕ} (from k : ℕ) → drop from text ≡ t → k ≡ length text - from → (take k (drop from text) ≡ t) × (k ≡ length t)

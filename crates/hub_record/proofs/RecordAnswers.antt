@@ -4,7 +4,7 @@ use Prim.Native.Nat.{ℕ, zero, suc, _+_, _-_, _≤_}
 use mathlib.Core.Path.{_≡_, refl, sym, ap, _∙_}
 use mathlib.Core.List.{List, _++_}
 use native.Mathlib.Omega.{arith}
-use lib.ListN.{length, take, drop}
+use lib.ListN.{length, take}
 use borrow.Rule.Slice.PartMut.{post-is, mid-len, same-len-mid}
 use Rattle.promises.specs.OneShot.{Left, onDone, openInPlaceOf}
 use Rattle.promises.proofs.Lengths.{open-out-length}

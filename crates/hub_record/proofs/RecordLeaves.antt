@@ -12,33 +12,16 @@ use borrow.Rule.Slice.PartMut.{mid-len}
 use Rattle.answers.specs.Answers.{tagSize}
 use Rattle.lent.specs.Lent.{same}
 use Rattle.lent.proofs.Same.{same-equal}
-use Rattle.promises.specs.OneShot.{Left, onto, plaintext, openTag, openInPlaceOf}
+use Rattle.promises.specs.OneShot.{Left, onto, plaintext, openTag}
 use Rattle.promises.proofs.Allowed.{Sizes}
 use Rattle.promises.proofs.Texts.{plaintext-length}
 use Rattle.promises.proofs.Onto.{onto-whole}
 use Rattle.promises.proofs.OpenAnswers.{open-released, open-erased, same-not}
 use Rattle.aegis128l.specs.Cipher.{aegis128l}
 use Rattle.hub_record.specs.Record.{headSize, between, tagSizeIn, adLengthIn, textStart, textEnd, shape}
-use Rattle.hub_record.specs.Record.{RecordLeft, refusedRecord, openedRecord, openParts, openRecordOf}
+use Rattle.hub_record.specs.Record.{keyIn, nonceIn, adIn, textIn, tagIn, RecordLeft, refusedRecord, openParts, openRecordOf}
 use Rattle.hub_record.proofs.RecordShape.{ShapeOk, shape-ok, shape-answers}
 use Rattle.hub_record.proofs.RecordAnswers.{shape-refused, verdict-refused, verdict-opened}
-
--- ---- the parts of a record
-
-abbrev pub keyIn : List ℕ → List ℕ
-keyIn l = between 1 17 l
-
-abbrev pub nonceIn : List ℕ → List ℕ
-nonceIn l = between 17 33 l
-
-abbrev pub adIn : List ℕ → List ℕ
-adIn l = between headSize (textStart l) l
-
-abbrev pub textIn : List ℕ → List ℕ
-textIn l = between (textStart l) (textEnd l) l
-
-abbrev pub tagIn : List ℕ → List ℕ
-tagIn l = between (textEnd l) (length l) l
 
 -- the ciphertext's bytes replaced, and no other
 abbrev pub withText : List ℕ → List ℕ → List ℕ

@@ -1,10 +1,10 @@
 -- The parts of a record: copied to an array that has room for them, and opened in place.
 -- Assumes nothing.
-use Prim.Native.Nat.{ℕ, _+_, _-_, _≤_}
+use Prim.Native.Nat.{ℕ, _-_, _≤_}
 use mathlib.Core.Path.{_≡_, sym, ap, _∙_}
 use mathlib.Core.List.{List, _++_}
 use native.Mathlib.Omega.{arith}
-use lib.ListN.{length, take, drop}
+use lib.ListN.{length, take}
 use borrow.Rule.Slice.PartMut.{putMid, post-is, mid-len}
 use Rattle.lent.specs.Lent.{over}
 use Rattle.lent.proofs.Over.{over-same, take-over}

@@ -1,6 +1,6 @@
 -- What the program writes is document 01's text: a buffer of 11 bytes or more holds the reply to every input.
 -- Assumes nothing.
-use Prim.Native.Nat.{ℕ, _+_, _-_, _^_, _≤_, _<_}
+use Prim.Native.Nat.{ℕ, _+_, _-_, _≤_, _<_}
 use mathlib.Core.Path.{_≡_, refl, sym, ap, _∙_, subst}
 use mathlib.Core.Bool.{Bool, true, false, cond}
 use mathlib.Core.Logic.{⊎-elim}
@@ -14,7 +14,7 @@ use borrow.Author.Tests.{le-leb}
 use borrow.Rule.Slice.PartMut.{mid-len}
 use Rattle.hub_record.specs.declared.reply.Part.{Part}
 use Rattle.hub_record.specs.View.{replied}
-use Rattle.hub_record.specs.Record.{headSize, textLimit, between, textStart, textEnd, RecordLeft, shape, openRecordOf}
+use Rattle.hub_record.specs.Record.{textLimit, between, textStart, textEnd, RecordLeft, shape, openRecordOf}
 use Rattle.hub_record.specs.Decimal.{digits, decimal}
 use Rattle.hub_record.specs.Reply.{Replied, openedWord, refusedWord, line, textOf, placed, replyOf}
 use Rattle.hub_record.proofs.DecimalDigits.{decimal-length}

@@ -1,7 +1,7 @@
 -- A record made of a sealed message opens to that message, whatever the message, within the limits; and a record that opens is made of the
 -- sealed form of its plaintext.
 -- Assumes nothing.
-use Prim.Native.Nat.{ℕ, _+_, _*_, _-_, _/_, _%_, _≤_}
+use Prim.Native.Nat.{ℕ, _+_, _-_, _/_, _%_, _≤_}
 use mathlib.Core.Path.{_≡_, refl, sym, ap, _∙_}
 use mathlib.Core.Bool.{true}
 use mathlib.Core.List.{List, [], _∷_, _++_, append-assoc, append-nil}
@@ -9,19 +9,20 @@ use native.Mathlib.Omega.{arith}
 use lib.ListN.{length, take, drop, getD, length-append}
 use lib.Seq.{take-at, drop-at, getD-at}
 use Rattle.machine.specs.Bytes.{zeros}
-use Rattle.answers.specs.Answers.{tagSize, limit}
-use Rattle.promises.specs.OneShot.{Left, onto, openInPlaceOf}
-use Rattle.promises.proofs.Allowed.{Allowed}
+use Rattle.answers.specs.Answers.{tagSize}
+use Rattle.promises.specs.OneShot.{openInPlaceOf}
 use Rattle.promises.proofs.Forms.{SealedForm, form-length, due-form}
 use Rattle.promises.proofs.Onto.{onto-whole}
+use Rattle.promises.proofs.Lengths.{seal-tag-length}
+use Rattle.promises.proofs.SealAnswers.{seal-zero}
 use Rattle.promises.proofs.OpenAnswers.{open-zero}
-use Rattle.promises.proofs.OneForm.{seals, Done, seal-writes, opens-to, form-zeros}
+use Rattle.promises.proofs.OneForm.{seals, Done, seal-writes, opens-to, done-zeros}
 use Rattle.aegis128l.specs.Cipher.{aegis128l}
 use Rattle.hub_record.specs.Record.{adLimit, textLimit, headSize, between, tagSizeIn, adLengthIn, textStart, textEnd, shape}
-use Rattle.hub_record.specs.Record.{recordOf, openParts, openRecordOf}
-use Rattle.hub_record.proofs.RecordShape.{ShapeOk, ok-shape, tag-within}
-use Rattle.hub_record.proofs.RecordAnswers.{verdict-opened, Opens, opens}
-use Rattle.hub_record.proofs.RecordLeaves.{keyIn, nonceIn, adIn, textIn, tagIn, plainIn}
+use Rattle.hub_record.specs.Record.{keyIn, nonceIn, adIn, textIn, tagIn, RecordLeft, recordOf, openParts, openRecordOf}
+use Rattle.hub_record.proofs.RecordShape.{ok-shape, tag-within}
+use Rattle.hub_record.proofs.RecordAnswers.{verdict-opened, opens}
+use Rattle.hub_record.proofs.RecordLeaves.{plainIn}
 
 -- the part that stands behind p
 between-at : (p x q : List ℕ) (a e : ℕ) → length p ≡ a → length x ≡ e - a → between a e (p ++ (x ++ q)) ≡ x
@@ -190,16 +191,42 @@ module _ (key nonce ad text tag : List ℕ) (fit : Fitting key nonce ad text tag
         sym (verdict-opened whole start end 0 _ shaped start-is end-is (sym parts-are) refl)
         ∙ ap (λ (j : ℕ). record { answer = 0; start = start; length = j; input = recordOf key nonce ad msg tag }) k
 
--- ---- what seal writes makes such a record
+-- ---- what seal writes makes such a record, for every message within the limits
 
-pub seal-makes-records : (key nonce ad msg out tagBuf : List ℕ) → Done aegis128l key nonce ad msg out tagBuf
-    → let ct = take (length msg) ((seals aegis128l key nonce ad msg out tagBuf) .out) in
-    let tag = (seals aegis128l key nonce ad msg out tagBuf) .tag in
-    Fitting key nonce ad ct tag
-    → openRecordOf (recordOf key nonce ad ct tag)
-    ≡ record { answer = 0; start = headSize + length ad; length = length msg; input = recordOf key nonce ad msg tag }
-seal-makes-records key nonce ad msg out tagBuf h fit =
-    sealed-record-opens key nonce ad _ _ fit msg (seal-writes aegis128l key nonce ad msg out tagBuf h)
+module _ (key nonce ad msg out tagBuf : List ℕ) (done : Done aegis128l key nonce ad msg out tagBuf) where
+  -- what seal wrote: as many bytes of the output as the message has, and the tag
+  abbrev sealedText : List ℕ
+  sealedText = take (length msg) ((seals aegis128l key nonce ad msg out tagBuf) .out)
+
+  abbrev sealedTag : List ℕ
+  sealedTag = (seals aegis128l key nonce ad msg out tagBuf) .tag
+
+  form : SealedForm aegis128l key nonce ad msg sealedText sealedTag
+  form = seal-writes aegis128l key nonce ad msg out tagBuf done
+
+  fitting : length ad ≤ adLimit → length msg ≤ textLimit → Fitting key nonce ad sealedText sealedTag
+  fitting a t =
+      let k = seal-zero aegis128l key nonce ad msg out tagBuf done in
+      record {
+        key-size = k .key-size;
+        nonce-size = k .nonce-size;
+        ad-fits = a;
+        text-fits = omega (arith, form-length aegis128l key nonce ad msg sealedText sealedTag form);
+        tag-size = ap tagSize (seal-tag-length aegis128l key nonce ad msg out tagBuf) ∙ k .tag-size;
+      }
+
+  pub seal-makes-records : length ad ≤ adLimit → length msg ≤ textLimit
+      → openRecordOf (recordOf key nonce ad sealedText sealedTag)
+      ≡ record { answer = 0; start = headSize + length ad; length = length msg; input = recordOf key nonce ad msg sealedTag }
+  seal-makes-records a t = sealed-record-opens key nonce ad sealedText sealedTag (fitting a t) msg form
+
+-- the witness: the empty message, under a key and a nonce of zeros, makes a record that opens
+pub opened-witness : (l : List ℕ) × ((openRecordOf l) .answer ≡ 0)
+opened-witness = (
+  _,
+  ap (λ (r : RecordLeft). r .answer)
+      (seal-makes-records (zeros 16) (zeros 16) [] [] [] (zeros 16) (done-zeros aegis128l) (omega arith) (omega arith)),
+)
 
 -- ---- the other way round: a record that opens holds the sealed form of its plaintext
 

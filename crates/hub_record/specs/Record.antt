@@ -43,6 +43,21 @@ textStart l = headSize + adLengthIn l
 abbrev pub textEnd : List ℕ → ℕ
 textEnd l = length l - tagSizeIn l
 
+abbrev pub keyIn : List ℕ → List ℕ
+keyIn l = between 1 17 l
+
+abbrev pub nonceIn : List ℕ → List ℕ
+nonceIn l = between 17 33 l
+
+abbrev pub adIn : List ℕ → List ℕ
+adIn l = between headSize (textStart l) l
+
+abbrev pub textIn : List ℕ → List ℕ
+textIn l = between (textStart l) (textEnd l) l
+
+abbrev pub tagIn : List ℕ → List ℕ
+tagIn l = between (textEnd l) (length l) l
+
 -- a record made of its parts
 unfoldable pub recordOf : List ℕ → List ℕ → List ℕ → List ℕ → List ℕ → List ℕ
 recordOf key nonce ad text tag =
@@ -72,7 +87,7 @@ pub record RecordLeft : Type 0 where
 -- the parts of a record whose ciphertext goes from place a up to place e, opened in place: no byte but the ciphertext's changes
 unfoldable pub openParts : List ℕ → ℕ → ℕ → Left
 openParts l a e =
-    let r = openInPlaceOf aegis128l (between 1 17 l) (between 17 33 l) (between headSize a l) (between a e l) (between e (length l) l) in
+    let r = openInPlaceOf aegis128l (keyIn l) (nonceIn l) (between headSize a l) (between a e l) (between e (length l) l) in
     record { answer = r .answer; out = take a l ++ (r .out ++ drop e l) }
 
 abbrev pub refusedRecord : List ℕ → ℕ → RecordLeft

@@ -21,12 +21,13 @@ refusedWord = 0x72 ∷ 0x65 ∷ 0x66 ∷ 0x75 ∷ 0x73 ∷ 0x65 ∷ 0x64 ∷ 0x2
 unfoldable pub line : List ℕ → ℕ → List ℕ
 line word n = word ++ (decimal n ++ (0x0a ∷ []))
 
--- "opened ", the length, a line feed and the plaintext; or "refused ", the number and a line feed
+-- "opened ", the length, a line feed and the plaintext, which has n bytes of a list from place a on
+abbrev pub openedText : ℕ → ℕ → List ℕ → List ℕ
+openedText a n l = line openedWord n ++ between a (a + n) l
+
+-- or "refused ", the number and a line feed
 unfoldable pub textOf : RecordLeft → List ℕ
-textOf r =
-    onDone (r .answer)
-    (line refusedWord)
-    (line openedWord (r .length) ++ between (r .start) (r .start + r .length) (r .input))
+textOf r = onDone (r .answer) (line refusedWord) (openedText (r .start) (r .length) (r .input))
 
 -- where the reply stands, and every byte of the buffer
 pub record Replied : Type 0 where

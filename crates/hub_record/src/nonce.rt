@@ -19,6 +19,7 @@ fn le64(x: u64) -> [u8; 8]
     ]
 }
 
+// Bytes 0 to 7 the scale number, bytes 8 to 15 the record number, little-endian.
 pub fn nonce(scale: u64, record: u64) -> [u8; 16]
     ensures { λ r. ⌜ r ≡ nonceOf scale «record» ⌝ }
 {

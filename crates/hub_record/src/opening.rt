@@ -15,9 +15,9 @@ pub struct Opened {
 }
 
 // What the head says: the tag size and the AD length.
-pub struct Head {
-    pub tag: u8,
-    pub ad: u16,
+struct Head {
+    tag: u8,
+    ad: u16,
 }
 
 // The byte at place i, or 0 past the end.
@@ -68,6 +68,8 @@ fn open_parts(input: &mut [u8], a: usize, e: usize) -> u8
     )
 }
 
+// The record in `input`, opened in place. With 0 the plaintext stands where the ciphertext stood, with 7 that place is 0xaa, with 1 and 11
+// nothing is changed; no other byte changes.
 pub fn open_record(input: &mut [u8]) -> Opened
     ensures { λ r. ⌜ recordLeft r (now (input .exit)) ≡ openRecordOf (now (input .entry)) ⌝ }
 {

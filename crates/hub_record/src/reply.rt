@@ -1,9 +1,7 @@
 // What the hub program writes, made in the buffer that holds its input.
 ghost use mathlib.Core.Path.{_≡_};
-ghost use mathlib.Core.List.{_++_};
 ghost use Prim.Native.Nat.{_+_, _≤_, min};
 ghost use lib.ListN.{length};
-ghost use Rattle.hub_record.specs.Record.{between};
 ghost use Rattle.hub_record.specs.Reply as spec;
 ghost use Rattle.hub_record.specs.View.{replied};
 use crate::line::line;
@@ -38,7 +36,7 @@ fn refuse(answer: u8, buf: &mut [u8]) -> Part
 // Right before the plaintext, which has `count` bytes from `start` on.
 fn announce(start: usize, count: usize, buf: &mut [u8]) -> Part
     requires { ⌜ (32 ≤ start) × (start + count ≤ length (now buf)) ⌝ }
-    ensures { λ r. ⌜ replied r (now (buf .exit)) ≡ spec.placed (spec.line spec.openedWord count ++ between start (start + count) (now (buf .entry))) (start + count) (now (buf .entry)) ⌝ }
+    ensures { λ r. ⌜ replied r (now (buf .exit)) ≡ spec.placed (spec.openedText start count (now (buf .entry))) (start + count) (now (buf .entry)) ⌝ }
 {
     let mut text = [0u8; 32];
     let from = line(b"opened ", count, &mut text);
