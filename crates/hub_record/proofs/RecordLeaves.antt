@@ -18,7 +18,7 @@ use Rattle.promises.proofs.Texts.{plaintext-length}
 use Rattle.promises.proofs.Onto.{onto-whole}
 use Rattle.promises.proofs.OpenAnswers.{open-released, open-erased, same-not}
 use Rattle.aegis128l.specs.Cipher.{aegis128l}
-use Rattle.hub_record.specs.Record.{headSize, between, tagSizeIn, adLengthIn, textStart, textEnd, shape}
+use Rattle.hub_record.specs.Record.{headSize, tagSizeIn, adLengthIn, textStart, textEnd, shape}
 use Rattle.hub_record.specs.Record.{keyIn, nonceIn, adIn, textIn, tagIn, RecordLeft, refusedRecord, openParts, openRecordOf}
 use Rattle.hub_record.proofs.RecordShape.{ShapeOk, shape-ok, shape-answers}
 use Rattle.hub_record.proofs.RecordAnswers.{shape-refused, verdict-refused, verdict-opened}
