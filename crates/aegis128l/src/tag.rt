@@ -11,7 +11,7 @@ use crate::state::State;
 use aes::AesBlock;
 
 // A number as 8 bytes, little-endian.
-fn le64(x: u64) -> [u8; 8]
+pub fn le64(x: u64) -> [u8; 8]
     ensures { λ r. ⌜ r ≡ draft.le64 x ⌝ }
 {
     [

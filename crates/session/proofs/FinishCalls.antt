@@ -18,7 +18,7 @@ use Rattle.promises.specs.Cipher.{Cipher}
 use Rattle.promises.specs.Session.{pick, sealing, opening, macing, Session, Handed, Wrote, Opened, ifOpening, wellFormed, live, erased, ended, abortLive}
 use Rattle.promises.specs.Session.{sessionTag, sessionMac, sealFinish, macFinish, macFinishCheck, released, openFinish, abort}
 use Rattle.promises.proofs.SessionLive.{live-facts, opening-facts, abortLive-facts}
-use Rattle.session.proofs.Ladder.{met-done, met-refused}
+use Rattle.promises.proofs.Ladder.{does, refuses}
 use Rattle.session.proofs.LiveFacts.{live-formed}
 
 module _ {S : Type 0} (C : Cipher S) where
@@ -47,13 +47,13 @@ module _ {S : Type 0} (C : Cipher S) where
       (is-live : l ≡ live rate sealing s) (answer : a ≡ answers.finish l (length tag) (s .tagSize)) where
     pub seal-refused : (a ≡ 0 → ⊥) → _≡_ {A = Wrote S} (record { answer = a; session = s; out = tag }) (sealFinish C s tag)
     unfolding sealFinish
-    seal-refused h = met-refused _ _ _ a (ladder sealing s tag l a is-live answer) h
+    seal-refused h = refuses _ a _ _ (ladder sealing s tag l a is-live answer) h
 
     pub seal-done : a ≡ 0 → (g : Handed S) (o : List ℕ) → Over g 0 → o ≡ sessionTag C s
         → _≡_ {A = Wrote S} (record { answer = g .answer; session = g .session; out = o }) (sealFinish C s tag)
     unfolding sealFinish
     seal-done h g o eg eo =
-        met-done _ _ _ a (ladder sealing s tag l a is-live answer) h (λ k. record { answer = eg k .answer; session = eg k .session; out = eo k })
+        does _ a _ _ _ (ladder sealing s tag l a is-live answer) h (λ k. record { answer = eg k .answer; session = eg k .session; out = eo k })
 
   -- ---- MAC
 
@@ -61,24 +61,24 @@ module _ {S : Type 0} (C : Cipher S) where
       (is-live : l ≡ live rate macing s) (answer : a ≡ answers.finish l (length tag) (s .tagSize)) where
     pub mac-refused : (a ≡ 0 → ⊥) → _≡_ {A = Wrote S} (record { answer = a; session = s; out = tag }) (macFinish C s tag)
     unfolding macFinish
-    mac-refused h = met-refused _ _ _ a (ladder macing s tag l a is-live answer) h
+    mac-refused h = refuses _ a _ _ (ladder macing s tag l a is-live answer) h
 
     pub mac-done : a ≡ 0 → (g : Handed S) (o : List ℕ) → Over g 0 → o ≡ sessionMac C s
         → _≡_ {A = Wrote S} (record { answer = g .answer; session = g .session; out = o }) (macFinish C s tag)
     unfolding macFinish
     mac-done h g o eg eo =
-        met-done _ _ _ a (ladder macing s tag l a is-live answer) h (λ k. record { answer = eg k .answer; session = eg k .session; out = eo k })
+        does _ a _ _ _ (ladder macing s tag l a is-live answer) h (λ k. record { answer = eg k .answer; session = eg k .session; out = eo k })
 
     pub check-refused : (a ≡ 0 → ⊥) → _≡_ {A = Handed S} (record { answer = a; session = s }) (macFinishCheck C s tag)
     unfolding macFinishCheck
-    check-refused h = met-refused _ _ _ a (ladder macing s tag l a is-live answer) h
+    check-refused h = refuses _ a _ _ (ladder macing s tag l a is-live answer) h
 
     -- the verdict, m
     module _ (h : a ≡ 0) (g : Handed S) (m v : Bool) (verdict : m ≡ same tag (sessionMac C s)) (came : m ≡ v) where
       pub check-done : Over g (answers.unless 7 v 0) → g ≡ macFinishCheck C s tag
       unfolding macFinishCheck
       check-done eg =
-          met-done _ _ _ a (ladder macing s tag l a is-live answer) h
+          does _ a _ _ _ (ladder macing s tag l a is-live answer) h
           (eg ∙ (λ k. record { answer = answers.unless 7 ((sym came ∙ verdict) k) 0; session = ended C }))
 
   -- ---- what an opener erases
@@ -100,7 +100,7 @@ module _ {S : Type 0} (C : Cipher S) where
 
     pub open-refused : (a ≡ 0 → ⊥) → _≡_ {A = Opened S} (record { answer = a; count = 0; session = s; out = plain }) (openFinish C s tag plain)
     unfolding openFinish
-    open-refused h = met-refused _ _ _ a open-ladder h
+    open-refused h = refuses _ a _ _ open-ladder h
 
     module _ (h : a ≡ 0) where
       pub open-asks : (wellFormed rate s ≡ true) × (length tag ≡ s .tagSize)
@@ -114,7 +114,7 @@ module _ {S : Type 0} (C : Cipher S) where
         pub open-released : m ≡ true → _≡_ {A = Opened S} (record { answer = 0; count = s .written; session = t; out = plain }) (openFinish C s tag plain)
         unfolding openFinish released
         open-released e =
-            met-done _ _ _ a open-ladder h
+            does _ a _ _ _ open-ladder h
             ((λ k. record { answer = 0; count = s .written; session = over k; out = plain })
             ∙ ap (λ (v : Bool). released C v s plain) (sym e ∙ verdict))
 
@@ -125,7 +125,7 @@ module _ {S : Type 0} (C : Cipher S) where
             let k : eqb (s .mark) opening ≡ true = eq-eqb (s .mark) opening (live-facts rate s opening (open-ok h .is-live) .kind-is) in
             let w : o ≡ erased (s .written) plain
             = eo ∙ erasing (eqb (s .mark) opening) (s .written) plain (λ _. open-within) ∙ ap (λ (x : Bool). pick x (erased (s .written) plain) plain) k in
-            met-done _ _ _ a open-ladder h
+            does _ a _ _ _ open-ladder h
             ((λ k. record { answer = 7; count = 0; session = over k; out = w k }) ∙ ap (λ (v : Bool). released C v s plain) (sym e ∙ verdict))
 
   -- ---- abort
@@ -143,7 +143,7 @@ module _ {S : Type 0} (C : Cipher S) where
 
     pub abort-refused : (a ≡ 0 → ⊥) → _≡_ {A = Wrote S} (record { answer = a; session = s; out = plain }) (abort C s plain)
     unfolding abort
-    abort-refused h = met-refused _ _ _ a abort-ladder h
+    abort-refused h = refuses _ a _ _ abort-ladder h
 
     module _ (h : a ≡ 0) where
       abort-within : eqb (s .mark) opening ≡ true → s .written ≤ length plain
@@ -158,4 +158,4 @@ module _ {S : Type 0} (C : Cipher S) where
       unfolding abort
       abort-done g o eg eo =
           let w = eo ∙ erasing (eqb (s .mark) opening) (s .written) plain abort-within in
-          met-done _ _ _ a abort-ladder h (λ k. record { answer = eg k .answer; session = eg k .session; out = w k })
+          does _ a _ _ _ abort-ladder h (λ k. record { answer = eg k .answer; session = eg k .session; out = w k })

@@ -1,6 +1,5 @@
 -- The laws of sessions in the code: what their calls ask, and what makes their outcomes the promised ones.
 pub mod Tests
-pub mod Ladder
 pub mod LiveFacts
 pub mod StartCalls
 pub mod PieceCalls

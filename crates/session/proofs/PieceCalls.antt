@@ -19,7 +19,7 @@ use Rattle.lent.proofs.Over.{over-same}
 use Rattle.promises.specs.Cipher.{Cipher}
 use Rattle.promises.specs.Session.{sealing, opening, macing, Session, Handed, Wrote, live, core, advanced, wroteMore}
 use Rattle.promises.specs.Session.{sealPiece, sealPieceInPlace, openPiece, macPiece}
-use Rattle.session.proofs.Ladder.{met-done, met-refused}
+use Rattle.promises.proofs.Ladder.{does, refuses}
 use Rattle.session.proofs.LiveFacts.{live-fill}
 
 -- ---- the work: k is the machine of the session, c what the bytes bring it to, t the session then
@@ -54,7 +54,7 @@ module _ {S : Type 0} (C : Cipher S) where
 
     pub seal-refused : (a ≡ 0 → ⊥) → _≡_ {A = Wrote S} (record { answer = a; session = s; out = buf }) (sealPiece C s msg buf)
     unfolding sealPiece
-    seal-refused h = met-refused _ _ _ a seal-ladder h
+    seal-refused h = refuses _ a _ _ seal-ladder h
 
     module _ (h : a ≡ 0) where
       pub seal-asks : (s .fill < rate) × ((s .msgLength + length msg ≤ answers.limit) × (length msg ≡ length buf))
@@ -65,7 +65,7 @@ module _ {S : Type 0} (C : Cipher S) where
       pub seal-done : (t : Session S) (o : List ℕ) → t ≡ advanced s (after machine enc (core s) msg) (length msg) → o ≡ out machine enc (core s) msg
           → _≡_ {A = Wrote S} (record { answer = 0; session = t; out = o }) (sealPiece C s msg buf)
       unfolding sealPiece
-      seal-done t o et eo = met-done _ _ _ a seal-ladder h (λ k. record { answer = 0; session = et k; out = eo k })
+      seal-done t o et eo = does _ a _ _ _ seal-ladder h (λ k. record { answer = 0; session = et k; out = eo k })
 
   -- ---- a sealing piece in place
 
@@ -76,7 +76,7 @@ module _ {S : Type 0} (C : Cipher S) where
 
     pub in-place-refused : (a ≡ 0 → ⊥) → _≡_ {A = Wrote S} (record { answer = a; session = s; out = buf }) (sealPieceInPlace C s buf)
     unfolding sealPieceInPlace
-    in-place-refused h = met-refused _ _ _ a in-place-ladder h
+    in-place-refused h = refuses _ a _ _ in-place-ladder h
 
     module _ (h : a ≡ 0) where
       pub in-place-asks : (s .fill < rate) × (s .msgLength + length buf ≤ answers.limit)
@@ -87,7 +87,7 @@ module _ {S : Type 0} (C : Cipher S) where
       pub in-place-done : (t : Session S) (o : List ℕ) → t ≡ advanced s (after machine enc (core s) buf) (length buf) → o ≡ out machine enc (core s) buf
           → _≡_ {A = Wrote S} (record { answer = 0; session = t; out = o }) (sealPieceInPlace C s buf)
       unfolding sealPieceInPlace
-      in-place-done t o et eo = met-done _ _ _ a in-place-ladder h (λ k. record { answer = 0; session = et k; out = eo k })
+      in-place-done t o et eo = does _ a _ _ _ in-place-ladder h (λ k. record { answer = 0; session = et k; out = eo k })
 
   -- ---- a MAC piece
 
@@ -98,7 +98,7 @@ module _ {S : Type 0} (C : Cipher S) where
 
     pub mac-refused : (a ≡ 0 → ⊥) → _≡_ {A = Handed S} (record { answer = a; session = s }) (macPiece C s data′)
     unfolding macPiece
-    mac-refused h = met-refused _ _ _ a mac-ladder h
+    mac-refused h = refuses _ a _ _ mac-ladder h
 
     module _ (h : a ≡ 0) where
       pub mac-asks : (s .fill < rate) × (s .msgLength + length data′ ≤ answers.limit)
@@ -109,7 +109,7 @@ module _ {S : Type 0} (C : Cipher S) where
       pub mac-done : (t : Session S) → t ≡ advanced s (after (silent machine) enc (core s) data′) (length data′)
           → _≡_ {A = Handed S} (record { answer = 0; session = t }) (macPiece C s data′)
       unfolding macPiece
-      mac-done t et = met-done _ _ _ a mac-ladder h (λ k. record { answer = 0; session = et k })
+      mac-done t et = does _ a _ _ _ mac-ladder h (λ k. record { answer = 0; session = et k })
 
   -- ---- an opening piece: the part of the plaintext buffer from the count written to that count and the piece's length
 
@@ -121,7 +121,7 @@ module _ {S : Type 0} (C : Cipher S) where
 
     pub open-refused : (a ≡ 0 → ⊥) → _≡_ {A = Wrote S} (record { answer = a; session = s; out = plain }) (openPiece C s ct plain)
     unfolding openPiece
-    open-refused h = met-refused _ _ _ a open-ladder h
+    open-refused h = refuses _ a _ _ open-ladder h
 
     module _ (h : a ≡ 0) where
       open-ok : OpenPieceOk (live rate opening s) (length plain) (s .room) (s .written) (length ct) (s .msgLength)
@@ -162,7 +162,7 @@ module _ {S : Type 0} (C : Cipher S) where
       open-done t o et eo =
           let n : (s .written + length ct) - s .written ≡ length ct = omega arith in
           let m : (s .written + length ct) - s .written ≡ length (out machine dec (core s) ct) = n ∙ sym (out-length machine dec (core s) ct) in
-          met-done _ _ _ a open-ladder h
+          does _ a _ _ _ open-ladder h
           (λ k. record {
             answer = 0;
             session = record {

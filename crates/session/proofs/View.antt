@@ -66,6 +66,13 @@ module _ (r q : Piece) (hr : length (r .session .blocks) ≡ 8) (hq : length (q 
     ap (λ (x : promise.Wrote Blocks). x .out) e,
   )
 
+  -- two outcomes that meet one promise are equal
+  pub unique-piece : (p : promise.Handed Blocks) → handedOf r ≡ p → handedOf q ≡ p → r ≡ q
+  unique-piece p e f = same-piece (e ∙ sym f)
+
+  pub unique-wrote : (p : promise.Wrote Blocks) (xs ys : List ℕ) → wroteOf r xs ≡ p → wroteOf q ys ≡ p → (r ≡ q) × (xs ≡ ys)
+  unique-wrote p xs ys e f = same-wrote xs ys (e ∙ sym f)
+
 module _ (r q : Finish) (hr : length (r .session .blocks) ≡ 8) (hq : length (q .session .blocks) ≡ 8) where
   pub same-opened : (xs ys : List ℕ) → openedOf r xs ≡ openedOf q ys → (r ≡ q) × (xs ≡ ys)
   same-opened xs ys e =
@@ -73,3 +80,6 @@ module _ (r q : Finish) (hr : length (r .session .blocks) ≡ 8) (hq : length (q
         (λ k. record { opened = record { answer = e k .answer; count = e k .count }; session = s k }),
         ap (λ (x : promise.Opened Blocks). x .out) e,
       )
+
+  pub unique-opened : (p : promise.Opened Blocks) (xs ys : List ℕ) → openedOf r xs ≡ p → openedOf q ys ≡ p → (r ≡ q) × (xs ≡ ys)
+  unique-opened p xs ys e f = same-opened xs ys (e ∙ sym f)
