@@ -1,0 +1,2 @@
+-- What the replay of a list asks.
+mod Falling
