@@ -1,2 +1,4 @@
--- What the replay of a list asks.
-mod Falling
+-- Tallies      what one record more adds to a tally
+-- Walking      a section after one step more, and why its walk ends
+pub mod Tallies
+pub mod Walking

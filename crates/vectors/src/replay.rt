@@ -1,7 +1,13 @@
 // The whole list, section by section: the published vectors end with a separator, the recorded answers with the end.
 ghost use mathlib.Core.Path.{_≡_};
-ghost use Prim.Native.Nat.{_+_, _≤_, _<_};
-ghost use lib.ListN.{length};
+ghost use mathlib.Core.Bool.{true};
+ghost use Prim.Native.Nat.{ℕ, _+_, _≤_, _<_};
+ghost use mathlib.Core.List.{List};
+ghost use lib.ListN.{length, drop};
+ghost use Rattle.recorded.specs.List.{Fits, kindOf};
+ghost use Rattle.vectors.specs.Walk as walk;
+use crate::records::Replayed;
+use recorded::list::Layout;
 
 // How a section stands: it goes on, it has ended, a record differs, or the list is malformed there.
 pub const GOES_ON: u8 = 0;
@@ -12,12 +18,15 @@ pub const DIFFERS: u8 = 2;
 
 pub const MALFORMED: u8 = 3;
 
-// How many records of each kind were equal.
+// How many records of each kind were equal, and how many cuttings.
 pub struct Tally {
     pub seals: usize,
     pub refusals: usize,
     pub macs: usize,
     pub streams: usize,
+    pub cut_seals: usize,
+    pub cut_openings: usize,
+    pub cut_macs: usize,
 }
 
 // A section up to place `at` of the list.
@@ -27,33 +36,62 @@ pub struct Section {
     pub tally: Tally,
 }
 
-// One more. No list has a million records.
-fn more(n: usize) -> usize
-    ensures { λ r. ⌜ r ≤ n + 1 ⌝ }
+fn none() -> Tally
+    ensures { λ r. ⌜ r ≡ walk.none ⌝ }
 {
-    if n < 1000000 { n + 1 } else { n }
+    Tally {
+        seals: 0,
+        refusals: 0,
+        macs: 0,
+        streams: 0,
+        cut_seals: 0,
+        cut_openings: 0,
+        cut_macs: 0,
+    }
 }
 
-fn counted(t: Tally, kind: u8) -> Tally {
+fn counted(t: Tally, kind: u8, cuttings: usize) -> Tally
+    requires { ⌜ (walk.Small t 131072) × (cuttings ≤ 8192) ⌝ }
+    ensures { λ r. ⌜ ((0 < kind) × (kind ≤ 4) → r ≡ walk.counted t kind cuttings) ⌝ }
+{
     let mut r = t;
     if kind == recorded::list::SEAL {
-        r.seals = more(t.seals);
+        r.seals = t.seals + 1;
+        r.cut_seals = t.cut_seals + cuttings;
+        r.cut_openings = t.cut_openings + cuttings;
         return r;
     }
     if kind == recorded::list::REFUSED {
-        r.refusals = more(t.refusals);
+        r.refusals = t.refusals + 1;
         return r;
     }
     if kind == recorded::list::MAC {
-        r.macs = more(t.macs);
+        r.macs = t.macs + 1;
+        r.cut_macs = t.cut_macs + cuttings;
         return r;
     }
-    r.streams = more(t.streams);
+    r.streams = t.streams + 1;
     r
 }
 
+fn replayed(kind: u8, rec: &[u8], l: Layout) -> Replayed
+    requires { ⌜ ((0 < kind) × (kind ≤ 4)) × Fits l (length (now rec)) ⌝ }
+    ensures { λ r. ⌜ (r .equal ≡ true → walk.Holds l (now (rec .entry)) kind) × (r .cuttings ≤ 8192) ⌝ }
+{
+    if kind == recorded::list::SEAL {
+        return crate::records::seal(rec, l);
+    }
+    if kind == recorded::list::REFUSED {
+        return crate::records::refused(rec, l);
+    }
+    if kind == recorded::list::MAC {
+        return crate::records::mac(rec, l);
+    }
+    crate::records::stream(rec, l)
+}
+
 fn stopped(s: Section, state: u8) -> Section
-    ensures { λ r. ⌜ (r .state ≡ state) × (r .at ≡ s .at) ⌝ }
+    ensures { λ r. ⌜ (r .state ≡ state) × ((r .at ≡ s .at) × (r .tally ≡ s .tally)) ⌝ }
 {
     let t = s.tally;
     Section {
@@ -63,19 +101,21 @@ fn stopped(s: Section, state: u8) -> Section
     }
 }
 
-// The record at the start of `rest`, which stands at the section's place, is replayed and passed.
-fn passed(s: Section, rest: &[u8], kind: u8) -> Section
-    requires { ⌜ s .at + length (now rest) ≤ 131072 ⌝ }
-    ensures { λ r. ⌜ (r .at ≤ s .at + length (now (rest .entry))) × (r .state ≡ 0 → s .at < r .at) ⌝ }
+// The record at the start of `rest`, which stands at the section's place.
+fn counted_on(s: Section, rest: &[u8], kind: u8) -> Section
+    requires { ⌜ ((0 < kind) × (kind ≤ 4)) × ((walk.Small (s .tally) (s .at)) × (s .at + length (now rest) ≤ 131072)) ⌝ }
+    requires { ⌜ kind ≡ kindOf (now rest) ⌝ }
+    ensures { λ r. ⌜ ((l : List ℕ) → s .at ≤ length l → now (rest .entry) ≡ drop (s .at) l → walk.Stepped l s r) ⌝ }
 {
     let l = recorded::list::laid_out(rest);
     if !recorded::list::fits(l, rest.len()) {
         return stopped(s, MALFORMED);
     }
-    if !crate::records::holds(kind, rest, l) {
+    let p = replayed(kind, rest, l);
+    if !p.equal {
         return stopped(s, DIFFERS);
     }
-    let t = counted(s.tally, kind);
+    let t = counted(s.tally, kind, p.cuttings);
     Section {
         state: GOES_ON,
         at: s.at + l.end,
@@ -85,8 +125,8 @@ fn passed(s: Section, rest: &[u8], kind: u8) -> Section
 
 // The next record of a section, or its end.
 fn next(list: &[u8], s: Section) -> Section
-    requires { ⌜ (s .at ≤ length (now list)) × (length (now list) ≤ 131072) ⌝ }
-    ensures { λ r. ⌜ (r .at ≤ length (now (list .entry))) × (r .state ≡ 0 → s .at < r .at) ⌝ }
+    requires { ⌜ (walk.Small (s .tally) (s .at)) × ((s .at ≤ length (now list)) × (length (now list) ≤ 131072)) ⌝ }
+    ensures { λ r. ⌜ walk.Stepped (now (list .entry)) s r ⌝ }
 {
     let at = s.at;
     let rest = &list[at..];
@@ -100,20 +140,15 @@ fn next(list: &[u8], s: Section) -> Section
     if kind > recorded::list::SEPARATOR {
         return stopped(s, MALFORMED);
     }
-    passed(s, rest, kind)
+    counted_on(s, rest, kind)
 }
 
 // The records from place `from` on, up to a separator or the end.
 pub fn walk_from(list: &[u8], from: usize) -> Section
     requires { ⌜ (from ≤ length (now list)) × (length (now list) ≤ 131072) ⌝ }
-    ensures { λ r. ⌜ r .at ≤ length (now (list .entry)) ⌝ }
+    ensures { λ r. ⌜ (walk.Walked (now (list .entry)) from (r .at) (r .tally)) × ((walk.Small (r .tally) 131072) × (r .at ≤ length (now (list .entry)))) ⌝ }
 {
-    let t = Tally {
-        seals: 0,
-        refusals: 0,
-        macs: 0,
-        streams: 0,
-    };
+    let t = none();
     let mut s = Section {
         state: GOES_ON,
         at: from,

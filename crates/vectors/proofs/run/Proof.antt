@@ -1,4 +1,4 @@
--- `run` meets its contract: where the first section ended, a byte of the list stood, so the second begins within the list.
+-- `run` meets what its calls ask: the second section starts behind the separator, within the list.
 -- Assumes nothing.
 use native.Mathlib.Omega.{arith}
 use borrow.Author.Needs.{needs}
@@ -8,9 +8,10 @@ use Rattle.vectors.proofs.run.Tie as tie
 
 walk-from-requires-2 : tie.Need-walk-from-requires-2
 walk-from-requires-2 c κs =
-    let i = c .before in
-    let within = i .before .ended .ensures (not-false _ (i .if1 .left)) in
-    (omega (arith, within), i .before .before .before .before .pre)
+    let at-if1 = c .before in
+    let at-ended = at-if1 .before in
+    let entry = at-ended .before .before .before in
+    (omega (arith, at-ended .ended .ensures (not-false _ (at-if1 .if1 .left))), entry .pre)
 
 pub run-spec : {M : Type 1} → statement M
 run-spec =
@@ -22,11 +23,17 @@ run-spec =
     (λ c. search needs)
     walk-from-requires-2
     (λ c κs. search needs)
+    (λ c κs. search needs)
+    (λ c. search needs)
+    (λ c. search needs)
+    (λ c. search needs)
+    (λ c κs. search needs)
     (λ c. search needs)
     (λ c. search needs)
     (λ c κs. search needs)
     (λ c κs. search needs)
     (λ c. search needs)
+    (λ c κs. search needs)
     (λ c κs. search needs)
     (λ c κs. search needs)
     (λ c. search needs))

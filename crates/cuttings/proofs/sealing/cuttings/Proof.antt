@@ -1,0 +1,40 @@
+-- `cuttings` meets its contract: the session starts, and every cutting seals the message.
+-- Assumes nothing.
+use native.Mathlib.Omega.{arith}
+use borrow.Author.Needs.{needs}
+use Rattle.cuttings.proofs.SealCuts.{start-sealed}
+use Rattle.cuttings.proofs.sealing.cuttings.Statement.{statement}
+use Rattle.cuttings.proofs.sealing.cuttings.Tie as tie
+
+returns : tie.Need-returns
+returns c = ((λ h. absurd (omega arith)), omega arith)
+
+returns-2 : tie.Need-returns-2
+returns-2 c = ((λ h. absurd (omega arith)), omega arith)
+
+returns-3 : tie.Need-returns-3
+returns-3 c = ((λ h. absurd (omega arith)), omega arith)
+
+returns-4 : tie.Need-returns-4
+returns-4 c = ((λ h. absurd (omega arith)), omega arith)
+
+returns-5 : tie.Need-returns-5
+returns-5 c =
+    let at-everywhere = c .before .before .before .before in
+    let at-if4 = at-everywhere .before .before .before in
+    let at-aegis128l-seal-start = at-if4 .before .before in
+    ((λ h. start-sealed _ _ _ _ _ _ (at-aegis128l-seal-start .aegis128l-seal-start .ensures) (at-if4 .if4 .left) (at-everywhere .everywhere .ensures .0 h)), at-everywhere .everywhere .ensures .1)
+
+pub cuttings-spec : {M : Type 1} → statement M
+cuttings-spec =
+    tie.close
+    (tie.spec
+    returns
+    returns-2
+    returns-3
+    (λ c κs. search needs)
+    returns-4
+    (λ c κs. search needs)
+    (λ c. search needs)
+    (λ c. search needs)
+    returns-5)

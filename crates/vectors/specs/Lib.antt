@@ -1,0 +1,2 @@
+-- What the replay of a section has shown and counted.
+pub mod Walk
