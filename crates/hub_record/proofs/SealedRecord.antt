@@ -220,12 +220,12 @@ module _ (key nonce ad msg out tagBuf : List ℕ) (done : Done aegis128l key non
       ≡ record { answer = 0; start = headSize + length ad; length = length msg; input = recordOf key nonce ad msg sealedTag }
   seal-makes-records a t = sealed-record-opens key nonce ad sealedText sealedTag (fitting a t) msg form
 
--- the witness: the empty message, under a key and a nonce of zeros, makes a record that opens
-pub opened-witness : (l : List ℕ) × ((openRecordOf l) .answer ≡ 0)
-opened-witness = (
+-- the witness: any message within the limit, under a key and a nonce of zeros, makes a record that opens
+pub opened-witness : (msg : List ℕ) → length msg ≤ textLimit → (l : List ℕ) × ((openRecordOf l) .answer ≡ 0)
+opened-witness msg t = (
   _,
   ap (λ (r : RecordLeft). r .answer)
-      (seal-makes-records (zeros 16) (zeros 16) [] [] [] (zeros 16) (done-zeros aegis128l) (omega arith) (omega arith)),
+      (seal-makes-records (zeros 16) (zeros 16) [] msg msg (zeros 16) (done-zeros aegis128l msg (omega arith)) (omega arith) t),
 )
 
 -- ---- the other way round: a record that opens holds the sealed form of its plaintext
