@@ -27,7 +27,11 @@ find_rust() {
 command -v cargo >/dev/null || missing 'cargo is not on the path: the comparison with the Rust needs Rust 1.95 or later'
 rust=$(find_rust)
 [ -n "$rust" ] || missing 'the Rust is neither in docs/src nor in ../shared/docs/src; WODZERIM_RUST_SRC may name its folder'
-[ -f "$top/build/libaegis128l.a" ] || { echo 'compare: build/libaegis128l.a is not there: make lib builds it' >&2; exit 1; }
+lib=$("$top/bridge/linkable.sh")
+if [ "${1:-}" = bench ] && [ "$lib" != "$top/build" ]; then
+    echo 'compare: the archive is for x86-64 and runs through an emulator here, so that its speed says nothing; bench needs an x86-64 machine' >&2
+    exit 1
+fi
 
 # The crate's files by links, and an empty file for each module that it names, that is not at hand and that AEGIS-128L
 # doesn't use.
@@ -42,6 +46,6 @@ done
 [ -e "$oracle/README.md" ] || : >"$oracle/README.md"
 
 # No flags from outside: with a processor's own AES the crate would take another round.
-export WODZERIM_LIB_DIR="$top/build" CARGO_TARGET_DIR="$top/build/cargo"
+export WODZERIM_LIB_DIR="$lib" CARGO_TARGET_DIR="$top/build/cargo"
 env -u RUSTFLAGS -u CARGO_ENCODED_RUSTFLAGS cargo build --manifest-path "$top/compare/Cargo.toml" --release --offline --quiet
 exec "$top/build/cargo/release/compare" "$@"

@@ -14,18 +14,18 @@ have() {
     return 1
 }
 
-[ -f "$top/build/libaegis128l.a" ] || { echo 'examples: build/libaegis128l.a is not there: make lib builds it' >&2; exit 1; }
+lib=$("$top/bridge/linkable.sh")
 mkdir -p "$out"
 
 if have "$cc" C; then
     "$cc" -std=c99 -Wall -Wextra -Wpedantic -Werror -O2 -I "$top/include" \
-        "$top/examples/c/seal_open.c" "$top/build/libaegis128l.a" -o "$out/seal_open"
+        "$top/examples/c/seal_open.c" "$lib/libaegis128l.a" -o "$out/seal_open"
     echo 'examples/c:'
     "$out/seal_open" || { echo 'examples: the C example failed' >&2; exit 1; }
 fi
 
 if have cargo Rust; then
-    export WODZERIM_LIB_DIR="$top/build" CARGO_TARGET_DIR="$out/cargo"
+    export WODZERIM_LIB_DIR="$lib" CARGO_TARGET_DIR="$out/cargo"
     cargo build --manifest-path "$top/examples/rust/Cargo.toml" --release --offline --quiet
     echo 'examples/rust:'
     "$out/cargo/release/seal_open" || { echo 'examples: the Rust example failed' >&2; exit 1; }

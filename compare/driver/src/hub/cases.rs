@@ -95,9 +95,22 @@ pub fn branches(program: &Path) -> Equal {
     Ok(count)
 }
 
+/// As many processes at a time as the machine has processors.
+fn check_all(program: &Path, what: &str, inputs: &[Vec<u8>]) -> Result<(), Difference> {
+    let workers = std::thread::available_parallelism().map_or(1, |n| n.get());
+    std::thread::scope(|scope| {
+        let started: Vec<_> = inputs
+            .chunks(inputs.len().div_ceil(workers))
+            .map(|share| scope.spawn(move || share.iter().try_for_each(|input| check(program, what, input))))
+            .collect();
+        started.into_iter().try_for_each(|worker| worker.join().expect("a worker does not panic"))
+    })
+}
+
 /// Right records, damaged ones, cut and lengthened ones, and any bytes.
 pub fn random(program: &Path) -> Equal {
     let mut random = Random::new(44);
+    let mut inputs = vec![];
     for _ in 0..RANDOM {
         let (ad, msg, tag_size) = (random.length(MOST_AD), random.length(MOST_CT), random.tag_size());
         let mut input = Record::new(&mut random, ad, msg, tag_size).sealed();
@@ -120,7 +133,8 @@ pub fn random(program: &Path) -> Equal {
                 }
             }
         }
-        check(program, "random input", &input)?;
+        inputs.push(input);
     }
+    check_all(program, "random input", &inputs)?;
     Ok(RANDOM)
 }

@@ -84,7 +84,7 @@ pub fn small_stack(program: &Path) -> Equal {
     random.damage(&mut wrong[35..]);
     for input in [&right, &wrong] {
         let mut shell = Command::new("sh");
-        shell.args(["-c", "ulimit -s 64 && exec \"$0\""]).arg(program);
+        shell.args(["-c", "ulimit -S -s 64 && exec \"$0\""]).arg(program);
         shell.stdin(Stdio::piped()).stdout(Stdio::piped()).stderr(Stdio::piped());
         let mut child = start(shell)?;
         feed(&mut child, &mut std::iter::once(input.clone()), Duration::ZERO);
