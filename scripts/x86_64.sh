@@ -9,13 +9,13 @@ rt=$(command -v "$RT") || { echo "x86_64: '$RT' is not on the path" >&2; exit 1;
 kit=$(dirname "$(dirname "$(readlink -f "$rt")")")/on/$(uname -m)/toolchain
 emulator=$kit/bin/qemu-x86_64
 
-case ${1:-} in
-emulator)
+case $#:${1:-} in
+1:emulator)
     [ "$(uname -m)" != x86_64 ] || exit 0
     [ -x "$emulator" ] || { echo "x86_64: what is built here is for x86-64, and the kit has no emulator for $(uname -m): $emulator is not there" >&2; exit 1; }
     echo "$emulator"
     ;;
-wrapper)
+2:wrapper)
     # The limit of the stack is the program's; the emulator may have more.
     cat <<END
 #!/bin/sh

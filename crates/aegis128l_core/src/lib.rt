@@ -215,14 +215,14 @@ impl Core {
         requires { ⌜ self .fill < 32 ⌝ }
         ensures { λ r. ⌜ stateOf r ≡ machine.close draft.machine (coreOf self) ⌝ }
     {
-        let f = self.fill;
+        let n = self.fill;
         let s = self.state;
-        if f == 0 {
+        if n == 0 {
             return s;
         }
         let b = self.buf;
         let mut p = [0u8; 32];
-        lent::put(&b[0..f], &mut p);
+        lent::put(&b[0..n], &mut p);
         s.absorb(&p, t)
     }
 }

@@ -140,14 +140,15 @@ pub fn open_finish(s: Session, tag: &[u8], plain: &mut [u8]) -> Finish
 {
     let live = crate::live(s, crate::OPENING);
     let a = answers::pieces::open_finish(live, plain.len(), s.room, tag.len(), s.tag_size);
+    let over = crate::ended();
     if a != answers::DONE {
         return told(a, 0, s);
     }
     if tag_matches(s, tag) {
-        return told(answers::DONE, s.written, crate::ended());
+        return told(answers::DONE, s.written, over);
     }
     erase(s, plain);
-    told(answers::TAG_DIFFERS, 0, crate::ended())
+    told(answers::TAG_DIFFERS, 0, over)
 }
 
 fn abort_live(s: Session) -> bool
