@@ -14,7 +14,7 @@ use session::Session;
 fn piece(s: Session, data: &[u8]) -> Step
     ensures { λ r. ⌜ (r .equal ≡ true → Macing (sessionOf s) (now («data» .entry)) (sessionOf (r .session))) ⌝ }
 {
-    let p = session::pieces::mac_piece(s, data);
+    let p = session_pieces::mac_piece(s, data);
     if p.answer != answers::DONE {
         return crate::differs(s);
     }
@@ -32,7 +32,7 @@ fn gives(s: Session, tag: &[u8], made: &mut [u8]) -> bool
     if made.len() != tag.len() {
         return false;
     }
-    let p = session::finishes::mac_finish(s, made);
+    let p = session_finishes::mac_finish(s, made);
     if p.answer != answers::DONE {
         return false;
     }
@@ -43,7 +43,7 @@ fn gives(s: Session, tag: &[u8], made: &mut [u8]) -> bool
 fn checked(s: Session, tag: &[u8], answer: u8) -> bool
     ensures { λ r. ⌜ (r ≡ true → macFinishCheck aegis128l (sessionOf s) (now (tag .entry)) .answer ≡ answer) ⌝ }
 {
-    let p = session::finishes::mac_finish_check(s, tag);
+    let p = session_finishes::mac_finish_check(s, tag);
     p.answer == answer
 }
 

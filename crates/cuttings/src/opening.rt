@@ -20,7 +20,7 @@ fn piece(s: Session, ct: &[u8], so_far: &[u8], plain: &mut [u8]) -> Step
     if n > plain.len() {
         return crate::differs(s);
     }
-    let p = session::pieces::open_piece(s, ct, plain);
+    let p = session_pieces::open_piece(s, ct, plain);
     if p.answer != answers::DONE {
         return crate::differs(s);
     }
@@ -38,7 +38,7 @@ fn piece(s: Session, ct: &[u8], so_far: &[u8], plain: &mut [u8]) -> Step
 fn released(s: Session, msg: &[u8], tag: &[u8], plain: &mut [u8]) -> bool
     ensures { λ r. ⌜ (r ≡ true → now (tag .entry) ≡ sessionTag aegis128l (sessionOf s)) ⌝ }
 {
-    let f = session::finishes::open_finish(s, tag, plain);
+    let f = session_finishes::open_finish(s, tag, plain);
     let o = f.opened;
     if o.answer != answers::DONE {
         return false;
@@ -53,7 +53,7 @@ fn released(s: Session, msg: &[u8], tag: &[u8], plain: &mut [u8]) -> bool
 fn erased(s: Session, damaged: &[u8], plain: &mut [u8]) -> bool
     ensures { λ r. ⌜ (r ≡ true → now (plain .exit) ≡ zeros (length (now (plain .exit)))) ⌝ }
 {
-    let f = session::finishes::open_finish(s, damaged, plain);
+    let f = session_finishes::open_finish(s, damaged, plain);
     let o = f.opened;
     if o.answer != answers::TAG_DIFFERS {
         return false;

@@ -16,7 +16,7 @@ use session::Session;
 fn piece(s: Session, msg: &[u8], ct: &[u8], buf: &mut [u8]) -> Step
     ensures { λ r. ⌜ (r .equal ≡ true → Sealing (sessionOf s) (now (msg .entry)) (now (ct .entry)) (sessionOf (r .session))) ⌝ }
 {
-    let p = session::pieces::seal_piece(s, msg, buf);
+    let p = session_pieces::seal_piece(s, msg, buf);
     if p.answer != answers::DONE {
         return crate::differs(s);
     }
@@ -38,7 +38,7 @@ fn piece_in_place(s: Session, msg: &[u8], ct: &[u8], buf: &mut [u8]) -> Step
         return crate::differs(s);
     }
     lent::put(msg, buf);
-    let p = session::pieces::seal_piece_in_place(s, buf);
+    let p = session_pieces::seal_piece_in_place(s, buf);
     if p.answer != answers::DONE {
         return crate::differs(s);
     }
@@ -59,7 +59,7 @@ fn finish(s: Session, tag: &[u8], made: &mut [u8]) -> bool
     if made.len() != tag.len() {
         return false;
     }
-    let p = session::finishes::seal_finish(s, made);
+    let p = session_finishes::seal_finish(s, made);
     if p.answer != answers::DONE {
         return false;
     }

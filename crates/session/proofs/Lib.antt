@@ -1,8 +1,5 @@
--- The laws of sessions in the code: what their calls ask, and what makes their outcomes the promised ones.
+-- The laws of sessions in the code: what the work on one asks, and what makes the outcomes of the starts the promised ones.
 pub mod Tests
 pub mod LiveFacts
 pub mod StartCalls
-pub mod PieceCalls
-pub mod SessionTags
-pub mod FinishCalls
 pub mod View

@@ -1,4 +1,5 @@
-// A session takes a message in pieces. It goes in by value and comes back by value; crate `thin` has the form in which the caller lends it.
+// A session takes a message in pieces. It goes in by value and comes back by value: here are the record and the starts, in crates
+// `session_pieces` and `session_finishes` what goes on with it. Crate `thin` has the form in which the caller lends it.
 ghost use mathlib.Core.Path.{_≡_};
 ghost use mathlib.Core.Bool.{true};
 ghost use Rattle.promises.specs.Session as promise;
@@ -9,8 +10,6 @@ use aegis128l::state::State;
 use aegis128l_core::Core;
 use aes::AesBlock;
 
-pub mod finishes;
-pub mod pieces;
 pub mod starts;
 
 pub const SEALING: u8 = 0;

@@ -7,9 +7,9 @@ use denote.Triple.Table.{entered, cited}
 use Rattle.promises.specs.Session as promise
 use Rattle.aegis128l.specs.Cipher.{aegis128l}
 use Rattle.session.specs.View.{sessionOf, wroteOf}
-use Rattle.session.proofs.finishes.abort.Symbol as core-def
-use Rattle.session.proofs.finishes.abort.Symbol.{name as #core}
-use Rattle.session.proofs.finishes.abort.Met as core-thm
+use Rattle.session_finishes.proofs.abort.Symbol as core-def
+use Rattle.session_finishes.proofs.abort.Symbol.{name as #core}
+use Rattle.session_finishes.proofs.abort.Met as core-thm
 use Rattle.thin.proofs.LentOut.{out-Effect, out-Core, out-lent-meets}
 use Rattle.thin.proofs.Handings.{piece}
 use Rattle.thin.proofs.aegis128l_abort.Key.{name as #thin}
@@ -26,4 +26,4 @@ aegis128l-abort-spec 𝓤 H 𝓜 𝓖 𝓡 =
     entered 𝓤 H (tripleOf 𝓤 H (𝓖 .A) thin.signature (thin.spec 𝓤 H (𝓖 .A) (𝓜 .mem) (𝓡 .run)))
     (tables 𝓤 H 𝓜 𝓡 code.env .C) (tables 𝓤 H 𝓜 𝓡 code.env .Λ) #thin code.function (code.unfolded 𝓤 H 𝓜 𝓡)
     (out-lent-meets piece 𝓤 H (𝓖 .A) (givenOf 𝓤 H 𝓜 𝓖) E #core (tablesOf 𝓤 H 𝓜 (tables 𝓤 H 𝓜 𝓡 code.env))
-    (cited 𝓤 H (out-Core piece 𝓤 H (𝓖 .A) E) 𝓜 𝓡 code.env #core core-def.routine code.calls-session·finishes·abort (core-thm.met 𝓤 H 𝓜 𝓖 𝓡)))
+    (cited 𝓤 H (out-Core piece 𝓤 H (𝓖 .A) E) 𝓜 𝓡 code.env #core core-def.routine code.calls-session-finishes·abort (core-thm.met 𝓤 H 𝓜 𝓖 𝓡)))
