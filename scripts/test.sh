@@ -1,7 +1,7 @@
 #!/bin/sh
-# All that CI runs. rt ci first: it proves every crate from nothing, tries the must-fail edits and runs the programs. What it proved is then
-# built into the archive and the hub program, which the examples and the comparison with the Rust use. The last line is rt ci's own.
-# Any failure ends it with a line that says what failed.
+# All that CI runs. After the layout and the documents comes rt ci: it proves every crate from nothing, tries the must-fail edits and runs the
+# programs. What it proved is then built into the archive and the hub program, which the examples and the comparison with the Rust use. The last
+# line is rt ci's own. Any failure ends it with a line that says what failed.
 set -u
 cd "$(dirname "$0")/.."
 RT=${RT:-rt}
@@ -21,6 +21,7 @@ step() { # NAME COMMAND..
 }
 
 step 'the layout of every file' "$RT" fmt --check
+step 'the names in the documents' sh scripts/docs.sh
 
 echo '== the proofs, from nothing, the must-fail edits and the programs'
 rm -f build/rt-ci.status
