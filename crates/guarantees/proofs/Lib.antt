@@ -1,0 +1,7 @@
+-- What a user may rely on.
+pub mod Sizes
+pub mod Outcomes
+pub mod Sealing
+pub mod Macs
+pub mod Sessions
+pub mod Witnesses

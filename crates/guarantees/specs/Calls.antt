@@ -1,0 +1,82 @@
+-- Calls of the exported one-shots: what a call was lent, its answer, and what the buffers that it may write hold afterwards (with a prime).
+-- `met` is the contract of the function (crates/oneshot/src), which is proved of every call. So what is proved of all these records holds of
+-- every call. A call in place is one whose message, or ciphertext, and output are one buffer (`sealInPlaceOf`, `openInPlaceOf`).
+-- Assumes nothing.
+use Prim.Native.Nat.{ℕ, _≤_}
+use mathlib.Core.Path.{_≡_}
+use mathlib.Core.Logic.{_⊎_}
+use mathlib.Core.List.{List}
+use lib.ListN.{length, take}
+use Rattle.promises.specs.OneShot as promise
+use Rattle.aegis128l.specs.Cipher.{aegis128l}
+use Rattle.oneshot.specs.Leaves.{sealLeft, left}
+
+-- what a message is sealed and opened under
+pub record Under : Type 0 where
+  pub key : List ℕ
+  pub nonce : List ℕ
+  pub ad : List ℕ
+
+-- aegis128l_seal
+pub record SealCall : Type 0 where
+  pub under : Under
+  pub msg : List ℕ
+  pub out : List ℕ
+  pub tag : List ℕ
+  pub answer : ℕ
+  pub out′ : List ℕ
+  pub tag′ : List ℕ
+  pub met : sealLeft answer out′ tag′ ≡ promise.sealOf aegis128l (under .key) (under .nonce) (under .ad) msg out tag
+
+-- aegis128l_open
+pub record OpenCall : Type 0 where
+  pub under : Under
+  pub ct : List ℕ
+  pub tag : List ℕ
+  pub out : List ℕ
+  pub answer : ℕ
+  pub out′ : List ℕ
+  pub met : left answer out′ ≡ promise.openOf aegis128l (under .key) (under .nonce) (under .ad) ct tag out
+
+-- the ciphertext that a call of seal wrote, and the message that a call of open did
+abbrev pub ciphertext : SealCall → List ℕ
+ciphertext c = take (length (c .msg)) (c .out′)
+
+abbrev pub message : OpenCall → List ℕ
+message c = take (length (c .ct)) (c .out′)
+
+-- aegis128l_stream_xor
+pub record StreamXorCall : Type 0 where
+  pub key : List ℕ
+  pub nonce : List ℕ
+  pub buf : List ℕ
+  pub answer : ℕ
+  pub buf′ : List ℕ
+  pub met : left answer buf′ ≡ promise.streamXorOf aegis128l key nonce buf
+
+-- aegis128l_mac
+pub record MacCall : Type 0 where
+  pub key : List ℕ
+  pub nonce : List ℕ
+  pub input : List ℕ
+  pub tag : List ℕ
+  pub answer : ℕ
+  pub tag′ : List ℕ
+  pub met : left answer tag′ ≡ promise.macOf aegis128l key nonce input tag
+
+-- aegis128l_mac_check
+pub record MacCheckCall : Type 0 where
+  pub key : List ℕ
+  pub nonce : List ℕ
+  pub input : List ℕ
+  pub tag : List ℕ
+  pub answer : ℕ
+  pub met : answer ≡ promise.macCheckOf aegis128l key nonce input tag
+
+-- sizes that no call refuses: 16 bytes of key and of nonce, a tag of 16 or 32, at most 2^61-1 of AD and of message
+pub record RightSizes (key nonce ad text tag : List ℕ) : Type 0 where
+  pub key-size : length key ≡ 16
+  pub nonce-size : length nonce ≡ 16
+  pub tag-size : (length tag ≡ 16) ⊎ (length tag ≡ 32)
+  pub ad-size : length ad ≤ 2305843009213693951
+  pub text-size : length text ≤ 2305843009213693951

@@ -1,0 +1,2 @@
+-- The calls that the guarantees speak of.
+pub mod Calls
