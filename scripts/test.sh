@@ -29,6 +29,7 @@ rm -f build/rt-ci.status
 [ "$(cat build/rt-ci.status)" = 0 ] || failed 'rt ci'
 tail -n 1 "$verdict" | grep -Eqx '[0-9]+ passed, 0 failed' || failed "rt ci did not end with 'N passed, 0 failed'"
 
+step 'why the edits are refused' sh scripts/refusals.sh
 step 'the archive for C and Rust' sh scripts/lib.sh
 step 'the hub program' sh scripts/hub.sh
 step 'the examples in C and Rust' examples/run.sh

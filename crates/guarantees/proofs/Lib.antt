@@ -2,6 +2,7 @@
 pub mod Sizes
 pub mod Outcomes
 pub mod Sealing
+pub mod InPlace
 pub mod Macs
 pub mod Sessions
 pub mod Witnesses

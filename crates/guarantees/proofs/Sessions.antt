@@ -16,10 +16,12 @@ use Rattle.promises.proofs.Allowed.{Sizes}
 use Rattle.promises.proofs.SealAnswers.{seal-zero}
 use Rattle.promises.proofs.MacAnswers.{mac-zero}
 use Rattle.promises.proofs.Lengths.{seal-tag-length}
-use Rattle.promises.proofs.Texts.{ciphertext-length}
+use Rattle.promises.proofs.Texts.{ciphertext-length, plaintext-length}
 use Rattle.promises.proofs.OpenSeal.{open-seal}
 use Rattle.promises.proofs.RunsSealing.{seal-run-given, seal-run-finish}
 use Rattle.promises.proofs.RunsCuttings.{Took, seal-took-cutting, open-every-cutting, open-every-cutting-released, mac-every-cutting}
+use Rattle.promises.proofs.RunsOpening.{open-run-plain}
+use Rattle.promises.proofs.RunsVerdict.{open-run-was-live, open-run-message, open-run-yields, open-run-accepts, open-run-released}
 use Rattle.promises.proofs.RunsErasing.{Wiped, wrong-tag-erases, abort-erases}
 use Rattle.aegis128l.specs.Cipher.{aegis128l}
 use Rattle.oneshot.specs.Leaves.{left}
@@ -98,6 +100,40 @@ module _ (s : SealCall) (done : s .answer ≡ 0) (pieces : List (List ℕ)) (cut
       open-every-cutting-released aegis128l (s .under .key) (s .under .nonce) (length (s .tag)) (s .under .ad) (starts s done) plain pieces held fits (s .tag′) size
       zero
       ∙ λ i. record { answer = 0; count = as-long i; out = (shot i) .out }
+
+-- ---- only what was sealed is released: after any calls, if the finish answers 0, then what was taken and the tag are the sealed form of the
+-- message that stands at the start of the buffer; its length is handed back, and no other byte has changed
+
+module _ (u : Under) (n : ℕ) (plain : List ℕ) (calls : List Call) (tag : List ℕ) where
+  abbrev pub at-finish : World (List (List ℕ))
+  at-finish = openRun aegis128l (u .key) (u .nonce) (u .ad) n plain calls
+
+  abbrev pub released : List ℕ
+  released = take (length (at-finish .taken)) (at-finish .plain)
+
+  pub record WasSealed : Type 0 where
+    pub text : at-finish .taken ≡ promise.ciphertext aegis128l (u .key) (u .nonce) (u .ad) released
+    pub tagged : tag ≡ promise.sealTag aegis128l (u .key) (u .nonce) (u .ad) released n
+    pub left-is : hands aegis128l at-finish (openFinish tag) ≡ record { answer = 0; count = length released; out = onto released plain }
+
+  pub session-released-was-sealed : hands aegis128l at-finish (openFinish tag) .answer ≡ 0 → WasSealed
+  session-released-was-sealed h =
+      let l = open-run-was-live aegis128l (u .key) (u .nonce) (u .ad) n plain calls tag h in
+      let s = open-run-accepts aegis128l (u .key) (u .nonce) (u .ad) n plain calls l tag .0 h in
+      let m : released ≡ s .0 = open-run-yields aegis128l (u .key) (u .nonce) (u .ad) n plain calls l (s .0) (s .1) in
+      let held : at-finish .plain ≡ onto released plain =
+      open-run-plain aegis128l (u .key) (u .nonce) (u .ad) n plain calls l
+      ∙ ap (λ (x : List ℕ). onto x plain) (sym (open-run-message aegis128l (u .key) (u .nonce) (u .ad) n plain calls l)) in
+      let count : length (at-finish .taken) ≡ length released =
+      sym (ap length (open-run-message aegis128l (u .key) (u .nonce) (u .ad) n plain calls l)
+      ∙ plaintext-length aegis128l (u .key) (u .nonce) (u .ad) (at-finish .taken)) in
+      record {
+        text = s .1 ∙ ap (promise.ciphertext aegis128l (u .key) (u .nonce) (u .ad)) (sym m);
+        tagged = s .2 ∙ ap (λ (x : List ℕ). promise.sealTag aegis128l (u .key) (u .nonce) (u .ad) x n) (sym m);
+        left-is =
+            open-run-released aegis128l (u .key) (u .nonce) (u .ad) n plain calls l tag h
+            ∙ λ i. record { answer = 0; count = count i; out = held i };
+      }
 
 -- ---- a MAC session gives the MAC, however the data is cut
 

@@ -53,7 +53,7 @@ are-refused = (
   (open-refuses aegis128l (zeros 16) (zeros 16) [] [] [], mac-refuses aegis128l (zeros 16) (zeros 16) []),
 )
 
--- ---- the MAC, stream xor, and openings that end by a wrong tag and by an abort
+-- ---- the MAC, stream xor, and openings that are released, that end by a wrong tag and by an abort
 
 pub is-maced : (macing (zeros 16) (zeros 16) [] (zeros 16)) .answer ≡ 0
 is-maced = mac-done-zeros aegis128l
@@ -62,6 +62,9 @@ pub is-xored : (buf : List ℕ) → (xoring (zeros 16) (zeros 16) buf) .answer �
 is-xored = streamXor-done-zeros aegis128l
 
 module _ (plain : List ℕ) (room : 5 ≤ length plain) where
+  pub is-released : (tag : List ℕ) × (hands aegis128l (runs.opened aegis128l plain) (openFinish tag) .answer ≡ 0)
+  is-released = runs.release-witness aegis128l plain room
+
   pub is-refused-at-the-end : (tag : List ℕ) × (hands aegis128l (runs.opened aegis128l plain) (openFinish tag) .answer ≡ 7)
   is-refused-at-the-end = runs.wrong-tag-witness aegis128l plain room
 

@@ -1,6 +1,6 @@
 -- Calls of the exported one-shots: what a call was lent, its answer, and what the buffers that it may write hold afterwards (with a prime).
 -- `met` is the contract of the function (crates/oneshot/src), which is proved of every call. So what is proved of all these records holds of
--- every call. A call in place is one whose message, or ciphertext, and output are one buffer (`sealInPlaceOf`, `openInPlaceOf`).
+-- every call.
 -- Assumes nothing.
 use Prim.Native.Nat.{ℕ, _≤_}
 use mathlib.Core.Path.{_≡_}
@@ -37,6 +37,24 @@ pub record OpenCall : Type 0 where
   pub answer : ℕ
   pub out′ : List ℕ
   pub met : left answer out′ ≡ promise.openOf aegis128l (under .key) (under .nonce) (under .ad) ct tag out
+
+-- aegis128l_seal_in_place and aegis128l_open_in_place: one buffer is what goes in and what comes out
+pub record SealInPlaceCall : Type 0 where
+  pub under : Under
+  pub buf : List ℕ
+  pub tag : List ℕ
+  pub answer : ℕ
+  pub buf′ : List ℕ
+  pub tag′ : List ℕ
+  pub met : sealLeft answer buf′ tag′ ≡ promise.sealInPlaceOf aegis128l (under .key) (under .nonce) (under .ad) buf tag
+
+pub record OpenInPlaceCall : Type 0 where
+  pub under : Under
+  pub buf : List ℕ
+  pub tag : List ℕ
+  pub answer : ℕ
+  pub buf′ : List ℕ
+  pub met : left answer buf′ ≡ promise.openInPlaceOf aegis128l (under .key) (under .nonce) (under .ad) buf tag
 
 -- the ciphertext that a call of seal wrote, and the message that a call of open did
 abbrev pub ciphertext : SealCall → List ℕ
