@@ -1,6 +1,6 @@
 #!/bin/sh
 # Holds the documents to what is there: each theorem that docs/THEOREMS.md names is a public name of the file that it links, each edit that
-# docs/PROMISES.md names is there and each edit is named, and each link leads to a file.
+# docs/PROMISES.md names is there and each edit is named, the definitions have as many lines as docs/THEOREMS.md says, and each link leads to a file.
 set -eu
 cd "$(dirname "$0")/.."
 
@@ -54,6 +54,13 @@ wrong=$(
         [ -d "crates/$crate/must-fail" ] || continue
         case $name in src | specs | proofs | must) continue ;; esac
         [ -f "crates/$crate/must-fail/$name.edit" ] || echo "docs/PROMISES.md: $crate/$name is no edit"
+    done
+
+    # lines of definitions
+    grep -oE '^\| crates/[^ ]+\.antt \| [0-9]+ \|' docs/THEOREMS.md | while read -r _ files _ lines _; do
+        # shellcheck disable=SC2086
+        there=$(ls $files | grep -v '/Lib\.antt$' | xargs cat | wc -l)
+        [ "$there" -eq "$lines" ] || echo "docs/THEOREMS.md: $files has $there lines, not $lines"
     done
 
     # links
