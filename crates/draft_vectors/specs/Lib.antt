@@ -1,0 +1,2 @@
+-- The draft's test vectors.
+pub mod Vectors
