@@ -2,8 +2,10 @@
 -- Assumes nothing.
 use Prim.Native.Nat.{ℕ}
 use mathlib.Core.Path.{_≡_, refl, sym, ap, _∙_}
+use mathlib.Core.Logic.{_≢_}
 use mathlib.Core.List.{List, [], _∷_, map}
-use lib.ListN.{length, take}
+use native.Mathlib.Omega.{arith}
+use lib.ListN.{length, take, getD}
 use Rattle.machine.specs.Draft.{zeroPad, blocks, split, draftAbsorb, draftEncrypt}
 use Rattle.promises.specs.OneShot.{keyed, ciphertext, sealTag, macState, macTag}
 use Rattle.aes.specs.Field.{xtime, mulBits, mul}
@@ -43,6 +45,20 @@ computes = refl
 
 pub hold : map (λ v. sealed (v .ad) (v .msg)) vectors ≡ map (λ v. v .must) vectors
 hold = sym (all-sealed vectors) ∙ computes
+
+-- the tags of the second vector: the one of 16 bytes is not the first half of the one of 32
+second : List Sealed → Sealed
+second [] = record { ct = []; tag16 = []; tag32 = [] }
+second (v ∷ []) = v
+second (v ∷ w ∷ vs) = w
+
+pub short-tag-is-not-half : sealTag aegis128l key nonce [] [] 16 ≢ take 16 (sealTag aegis128l key nonce [] [] 32)
+unfolding second
+short-tag-is-not-half e =
+    let short = ap (λ (l : List Sealed). getD (second l .tag16) 0 0) hold in
+    let long = ap (λ (l : List Sealed). getD (take 16 (second l .tag32)) 0 0) hold in
+    let first : _≡_ {A = ℕ} 0xc2 0x13 = sym short ∙ ap (λ (t : List ℕ). getD t 0 0) e ∙ long in
+    omega arith
 
 -- ---- the MAC
 
