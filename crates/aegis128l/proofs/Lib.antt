@@ -4,3 +4,4 @@ pub mod OneBlock
 pub mod Halves
 pub mod Rounds
 pub mod Tags
+pub mod ByteCipher

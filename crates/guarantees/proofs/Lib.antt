@@ -6,3 +6,4 @@ pub mod InPlace
 pub mod Macs
 pub mod Sessions
 pub mod Witnesses
+pub mod Demands

@@ -7,9 +7,8 @@ use mathlib.Core.Path.{_≡_}
 use mathlib.Core.Logic.{_⊎_}
 use mathlib.Core.List.{List}
 use lib.ListN.{length, take}
-use Rattle.promises.specs.OneShot as promise
+use Rattle.promises.specs.Met.{SealMet, SealInPlaceMet, OpenMet, OpenInPlaceMet, StreamXorMet, MacMet, MacCheckMet}
 use Rattle.aegis128l.specs.Cipher.{aegis128l}
-use Rattle.oneshot.specs.Leaves.{sealLeft, left}
 
 -- what a message is sealed and opened under
 pub record Under : Type 0 where
@@ -26,7 +25,7 @@ pub record SealCall : Type 0 where
   pub answer : ℕ
   pub out′ : List ℕ
   pub tag′ : List ℕ
-  pub met : sealLeft answer out′ tag′ ≡ promise.sealOf aegis128l (under .key) (under .nonce) (under .ad) msg out tag
+  pub met : SealMet aegis128l (under .key) (under .nonce) (under .ad) msg out tag answer out′ tag′
 
 -- aegis128l_open
 pub record OpenCall : Type 0 where
@@ -36,7 +35,7 @@ pub record OpenCall : Type 0 where
   pub out : List ℕ
   pub answer : ℕ
   pub out′ : List ℕ
-  pub met : left answer out′ ≡ promise.openOf aegis128l (under .key) (under .nonce) (under .ad) ct tag out
+  pub met : OpenMet aegis128l (under .key) (under .nonce) (under .ad) ct tag out answer out′
 
 -- aegis128l_seal_in_place and aegis128l_open_in_place: one buffer is what goes in and what comes out
 pub record SealInPlaceCall : Type 0 where
@@ -46,7 +45,7 @@ pub record SealInPlaceCall : Type 0 where
   pub answer : ℕ
   pub buf′ : List ℕ
   pub tag′ : List ℕ
-  pub met : sealLeft answer buf′ tag′ ≡ promise.sealInPlaceOf aegis128l (under .key) (under .nonce) (under .ad) buf tag
+  pub met : SealInPlaceMet aegis128l (under .key) (under .nonce) (under .ad) buf tag answer buf′ tag′
 
 pub record OpenInPlaceCall : Type 0 where
   pub under : Under
@@ -54,7 +53,7 @@ pub record OpenInPlaceCall : Type 0 where
   pub tag : List ℕ
   pub answer : ℕ
   pub buf′ : List ℕ
-  pub met : left answer buf′ ≡ promise.openInPlaceOf aegis128l (under .key) (under .nonce) (under .ad) buf tag
+  pub met : OpenInPlaceMet aegis128l (under .key) (under .nonce) (under .ad) buf tag answer buf′
 
 -- the ciphertext that a call of seal wrote, and the message that a call of open did
 abbrev pub ciphertext : SealCall → List ℕ
@@ -70,7 +69,7 @@ pub record StreamXorCall : Type 0 where
   pub buf : List ℕ
   pub answer : ℕ
   pub buf′ : List ℕ
-  pub met : left answer buf′ ≡ promise.streamXorOf aegis128l key nonce buf
+  pub met : StreamXorMet aegis128l key nonce buf answer buf′
 
 -- aegis128l_mac
 pub record MacCall : Type 0 where
@@ -80,7 +79,7 @@ pub record MacCall : Type 0 where
   pub tag : List ℕ
   pub answer : ℕ
   pub tag′ : List ℕ
-  pub met : left answer tag′ ≡ promise.macOf aegis128l key nonce input tag
+  pub met : MacMet aegis128l key nonce input tag answer tag′
 
 -- aegis128l_mac_check
 pub record MacCheckCall : Type 0 where
@@ -89,7 +88,7 @@ pub record MacCheckCall : Type 0 where
   pub input : List ℕ
   pub tag : List ℕ
   pub answer : ℕ
-  pub met : answer ≡ promise.macCheckOf aegis128l key nonce input tag
+  pub met : MacCheckMet aegis128l key nonce input tag answer
 
 -- sizes that no call refuses: 16 bytes of key and of nonce, a tag of 16 or 32, at most 2^61-1 of AD and of message
 pub record RightSizes (key nonce ad text tag : List ℕ) : Type 0 where

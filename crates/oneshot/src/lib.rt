@@ -8,10 +8,10 @@ ghost use Rattle.lent.specs.Lent.{same};
 ghost use Rattle.answers.specs.Answers.{tagSize, limit};
 ghost use Rattle.aes.specs.Field.{Table};
 ghost use Rattle.promises.specs.OneShot as promise;
+ghost use Rattle.promises.specs.Met.{SealMet, SealInPlaceMet, OpenMet, OpenInPlaceMet};
 ghost use Rattle.aegis128l.specs.Aegis128L as draft;
 ghost use Rattle.aegis128l.specs.Cipher.{aegis128l};
 ghost use Rattle.aegis128l.specs.View.{stateOf};
-ghost use Rattle.oneshot.specs.Leaves.{sealLeft, left};
 use aegis128l::state::State;
 use aegis128l_core::Core;
 
@@ -66,7 +66,7 @@ pub extern "C" fn aegis128l_seal(
     out: &mut [u8],
     tag: &mut [u8],
 ) -> u8
-    ensures { λ r. ⌜ sealLeft r (now (out .exit)) (now (tag .exit)) ≡ promise.sealOf aegis128l (now (key .entry)) (now (nonce .entry)) (now (ad .entry)) (now (msg .entry)) (now (out .entry)) (now (tag .entry)) ⌝ }
+    ensures { λ r. ⌜ SealMet aegis128l (now (key .entry)) (now (nonce .entry)) (now (ad .entry)) (now (msg .entry)) (now (out .entry)) (now (tag .entry)) r (now (out .exit)) (now (tag .exit)) ⌝ }
 {
     let n = msg.len();
     let a = answers::once::one_shot(
@@ -94,7 +94,7 @@ pub extern "C" fn aegis128l_seal_in_place(
     buf: &mut [u8],
     tag: &mut [u8],
 ) -> u8
-    ensures { λ r. ⌜ sealLeft r (now (buf .exit)) (now (tag .exit)) ≡ promise.sealInPlaceOf aegis128l (now (key .entry)) (now (nonce .entry)) (now (ad .entry)) (now (buf .entry)) (now (tag .entry)) ⌝ }
+    ensures { λ r. ⌜ SealInPlaceMet aegis128l (now (key .entry)) (now (nonce .entry)) (now (ad .entry)) (now (buf .entry)) (now (tag .entry)) r (now (buf .exit)) (now (tag .exit)) ⌝ }
 {
     let n = buf.len();
     let a = answers::once::one_shot(16, tag.len(), key.len(), nonce.len(), ad.len(), n, n);
@@ -114,7 +114,7 @@ pub extern "C" fn aegis128l_open(
     tag: &[u8],
     out: &mut [u8],
 ) -> u8
-    ensures { λ r. ⌜ left r (now (out .exit)) ≡ promise.openOf aegis128l (now (key .entry)) (now (nonce .entry)) (now (ad .entry)) (now (ct .entry)) (now (tag .entry)) (now (out .entry)) ⌝ }
+    ensures { λ r. ⌜ OpenMet aegis128l (now (key .entry)) (now (nonce .entry)) (now (ad .entry)) (now (ct .entry)) (now (tag .entry)) (now (out .entry)) r (now (out .exit)) ⌝ }
 {
     let n = ct.len();
     let a = answers::once::one_shot(
@@ -145,7 +145,7 @@ pub extern "C" fn aegis128l_open_in_place(
     buf: &mut [u8],
     tag: &[u8],
 ) -> u8
-    ensures { λ r. ⌜ left r (now (buf .exit)) ≡ promise.openInPlaceOf aegis128l (now (key .entry)) (now (nonce .entry)) (now (ad .entry)) (now (buf .entry)) (now (tag .entry)) ⌝ }
+    ensures { λ r. ⌜ OpenInPlaceMet aegis128l (now (key .entry)) (now (nonce .entry)) (now (ad .entry)) (now (buf .entry)) (now (tag .entry)) r (now (buf .exit)) ⌝ }
 {
     let n = buf.len();
     let a = answers::once::one_shot(16, tag.len(), key.len(), nonce.len(), ad.len(), n, n);

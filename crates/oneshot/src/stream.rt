@@ -1,13 +1,12 @@
 // The keystream, and a message under it, with no tag.
 ghost use mathlib.Core.Path.{_≡_};
-ghost use Rattle.promises.specs.OneShot as promise;
+ghost use Rattle.promises.specs.Met.{StreamMet, StreamXorMet};
 ghost use Rattle.aegis128l.specs.Cipher.{aegis128l};
-ghost use Rattle.oneshot.specs.Leaves.{left};
 use aegis128l::state::State;
 
 #[no_mangle]
 pub extern "C" fn aegis128l_stream(key: &[u8], nonce: &[u8], out: &mut [u8]) -> u8
-    ensures { λ r. ⌜ left r (now (out .exit)) ≡ promise.streamOf aegis128l (now (key .entry)) (now (nonce .entry)) (now (out .entry)) ⌝ }
+    ensures { λ r. ⌜ StreamMet aegis128l (now (key .entry)) (now (nonce .entry)) (now (out .entry)) r (now (out .exit)) ⌝ }
 {
     let a = answers::once::stream(16, key.len(), nonce.len());
     if a != answers::DONE {
@@ -22,7 +21,7 @@ pub extern "C" fn aegis128l_stream(key: &[u8], nonce: &[u8], out: &mut [u8]) -> 
 
 #[no_mangle]
 pub extern "C" fn aegis128l_stream_xor(key: &[u8], nonce: &[u8], buf: &mut [u8]) -> u8
-    ensures { λ r. ⌜ left r (now (buf .exit)) ≡ promise.streamXorOf aegis128l (now (key .entry)) (now (nonce .entry)) (now (buf .entry)) ⌝ }
+    ensures { λ r. ⌜ StreamXorMet aegis128l (now (key .entry)) (now (nonce .entry)) (now (buf .entry)) r (now (buf .exit)) ⌝ }
 {
     let a = answers::once::stream(16, key.len(), nonce.len());
     if a != answers::DONE {

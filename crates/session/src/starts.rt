@@ -1,10 +1,11 @@
 // The three starts. A refused start hands back a session that is over.
 ghost use mathlib.Core.Path.{_≡_};
 ghost use Rattle.promises.specs.Session as promise;
+ghost use Rattle.promises.specs.Met.{SealStartMet, OpenStartMet, MacStartMet};
 ghost use Rattle.promises.specs.OneShot as once;
 ghost use Rattle.aegis128l.specs.Cipher.{aegis128l};
 ghost use Rattle.aegis128l.specs.View.{stateOf};
-ghost use Rattle.session.specs.View.{sessionOf, handedOf};
+ghost use Rattle.session.specs.View.{sessionOf};
 use crate::Piece;
 use crate::Session;
 use aegis128l::state::State;
@@ -41,7 +42,7 @@ pub extern "C" fn aegis128l_seal_start(
     ad: &[u8],
     tag_size: usize,
 ) -> Piece
-    ensures { λ r. ⌜ handedOf r ≡ promise.sealStart aegis128l (now (key .entry)) (now (nonce .entry)) (now (ad .entry)) «tag_size» ⌝ }
+    ensures { λ r. ⌜ SealStartMet aegis128l (now (key .entry)) (now (nonce .entry)) (now (ad .entry)) «tag_size» (r .answer) (sessionOf (r .session)) ⌝ }
 {
     let a = answers::once::start(16, tag_size, key.len(), nonce.len(), ad.len());
     if a != answers::DONE {
@@ -64,7 +65,7 @@ pub extern "C" fn aegis128l_open_start(
     tag_size: usize,
     room: usize,
 ) -> Piece
-    ensures { λ r. ⌜ handedOf r ≡ promise.openStart aegis128l (now (key .entry)) (now (nonce .entry)) (now (ad .entry)) «tag_size» room ⌝ }
+    ensures { λ r. ⌜ OpenStartMet aegis128l (now (key .entry)) (now (nonce .entry)) (now (ad .entry)) «tag_size» room (r .answer) (sessionOf (r .session)) ⌝ }
 {
     let a = answers::once::start(16, tag_size, key.len(), nonce.len(), ad.len());
     if a != answers::DONE {
@@ -80,7 +81,7 @@ pub extern "C" fn aegis128l_open_start(
 
 #[no_mangle]
 pub extern "C" fn aegis128l_mac_start(key: &[u8], nonce: &[u8], tag_size: usize) -> Piece
-    ensures { λ r. ⌜ handedOf r ≡ promise.macStart aegis128l (now (key .entry)) (now (nonce .entry)) «tag_size» ⌝ }
+    ensures { λ r. ⌜ MacStartMet aegis128l (now (key .entry)) (now (nonce .entry)) «tag_size» (r .answer) (sessionOf (r .session)) ⌝ }
 {
     let a = answers::once::mac_start(16, tag_size, key.len(), nonce.len());
     if a != answers::DONE {

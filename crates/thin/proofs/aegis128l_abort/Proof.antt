@@ -1,12 +1,11 @@
 -- `aegis128l_abort` meets its contract: `LentOut.antt` at `abort`.
 -- Assumes nothing.
-use mathlib.Core.Path.{_≡_}
 use contract.Running.{givenOf, tables, tablesOf}
 use denote.Triple.Spec.{tripleOf}
 use denote.Triple.Table.{entered, cited}
-use Rattle.promises.specs.Session as promise
+use Rattle.promises.specs.Met.{AbortMet}
 use Rattle.aegis128l.specs.Cipher.{aegis128l}
-use Rattle.session.specs.View.{sessionOf, wroteOf}
+use Rattle.session.specs.View.{sessionOf}
 use Rattle.session_finishes.proofs.abort.Symbol as core-def
 use Rattle.session_finishes.proofs.abort.Symbol.{name as #core}
 use Rattle.session_finishes.proofs.abort.Met as core-thm
@@ -18,7 +17,7 @@ use Rattle.thin.proofs.aegis128l_abort.Statement as stated
 use Rattle.thin.proofs.aegis128l_abort.Code as code
 
 abbrev E : out-Effect piece
-E s ys r zs = wroteOf r zs ≡ promise.abort aegis128l (sessionOf s) ys
+E s ys r zs = AbortMet aegis128l (sessionOf s) ys (r .answer) (sessionOf (r .session)) zs
 
 pub aegis128l-abort-spec : {M : Type 1} → stated.statement M
 unfolding code.routine tablesOf

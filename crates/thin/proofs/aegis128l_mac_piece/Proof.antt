@@ -1,12 +1,11 @@
 -- `aegis128l_mac_piece` meets its contract: `LentIn.antt` at `mac_piece`.
 -- Assumes nothing.
-use mathlib.Core.Path.{_≡_}
 use contract.Running.{givenOf, tables, tablesOf}
 use denote.Triple.Spec.{tripleOf}
 use denote.Triple.Table.{entered, cited}
-use Rattle.promises.specs.Session as promise
+use Rattle.promises.specs.Met.{MacPieceMet}
 use Rattle.aegis128l.specs.Cipher.{aegis128l}
-use Rattle.session.specs.View.{sessionOf, handedOf}
+use Rattle.session.specs.View.{sessionOf}
 use Rattle.session_pieces.proofs.mac_piece.Symbol as core-def
 use Rattle.session_pieces.proofs.mac_piece.Symbol.{name as #core}
 use Rattle.session_pieces.proofs.mac_piece.Met as core-thm
@@ -18,7 +17,7 @@ use Rattle.thin.proofs.aegis128l_mac_piece.Statement as stated
 use Rattle.thin.proofs.aegis128l_mac_piece.Code as code
 
 abbrev E : in-Effect piece
-E s xs r = handedOf r ≡ promise.macPiece aegis128l (sessionOf s) xs
+E s xs r = MacPieceMet aegis128l (sessionOf s) xs (r .answer) (sessionOf (r .session))
 
 pub aegis128l-mac-piece-spec : {M : Type 1} → stated.statement M
 unfolding code.routine tablesOf

@@ -1,12 +1,11 @@
 -- `aegis128l_open_finish` meets its contract: `LentInOut.antt` at `open_finish`.
 -- Assumes nothing.
-use mathlib.Core.Path.{_≡_}
 use contract.Running.{givenOf, tables, tablesOf}
 use denote.Triple.Spec.{tripleOf}
 use denote.Triple.Table.{entered, cited}
-use Rattle.promises.specs.Session as promise
+use Rattle.promises.specs.Met.{OpenFinishMet}
 use Rattle.aegis128l.specs.Cipher.{aegis128l}
-use Rattle.session.specs.View.{sessionOf, openedOf}
+use Rattle.session.specs.View.{sessionOf}
 use Rattle.session_finishes.proofs.open_finish.Symbol as core-def
 use Rattle.session_finishes.proofs.open_finish.Symbol.{name as #core}
 use Rattle.session_finishes.proofs.open_finish.Met as core-thm
@@ -18,7 +17,7 @@ use Rattle.thin.proofs.aegis128l_open_finish.Statement as stated
 use Rattle.thin.proofs.aegis128l_open_finish.Code as code
 
 abbrev E : in-out-Effect finish
-E s xs ys r zs = openedOf r zs ≡ promise.openFinish aegis128l (sessionOf s) xs ys
+E s xs ys r zs = OpenFinishMet aegis128l (sessionOf s) xs ys (r .opened .answer) (r .opened .count) (sessionOf (r .session)) zs
 
 pub aegis128l-open-finish-spec : {M : Type 1} → stated.statement M
 unfolding code.routine tablesOf

@@ -1,12 +1,11 @@
 -- `aegis128l_seal_piece` meets its contract: `LentInOut.antt` at `seal_piece`.
 -- Assumes nothing.
-use mathlib.Core.Path.{_≡_}
 use contract.Running.{givenOf, tables, tablesOf}
 use denote.Triple.Spec.{tripleOf}
 use denote.Triple.Table.{entered, cited}
-use Rattle.promises.specs.Session as promise
+use Rattle.promises.specs.Met.{SealPieceMet}
 use Rattle.aegis128l.specs.Cipher.{aegis128l}
-use Rattle.session.specs.View.{sessionOf, wroteOf}
+use Rattle.session.specs.View.{sessionOf}
 use Rattle.session_pieces.proofs.seal_piece.Symbol as core-def
 use Rattle.session_pieces.proofs.seal_piece.Symbol.{name as #core}
 use Rattle.session_pieces.proofs.seal_piece.Met as core-thm
@@ -18,7 +17,7 @@ use Rattle.thin.proofs.aegis128l_seal_piece.Statement as stated
 use Rattle.thin.proofs.aegis128l_seal_piece.Code as code
 
 abbrev E : in-out-Effect piece
-E s xs ys r zs = wroteOf r zs ≡ promise.sealPiece aegis128l (sessionOf s) xs ys
+E s xs ys r zs = SealPieceMet aegis128l (sessionOf s) xs ys (r .answer) (sessionOf (r .session)) zs
 
 pub aegis128l-seal-piece-spec : {M : Type 1} → stated.statement M
 unfolding code.routine tablesOf
