@@ -168,7 +168,7 @@ pub fn cuttings(
     if !recorded::bytes::damage(tag, damaged) {
         return 0;
     }
-    let p = session::starts::aegis128l_mac_start(key, nonce, tag.len());
+    let p = session::starts::mac_start(key, nonce, tag.len());
     if p.answer != answers::DONE {
         return 0;
     }

@@ -199,7 +199,7 @@ pub fn cuttings(
     if !recorded::bytes::damage(tag, damaged) {
         return 0;
     }
-    let p = session::starts::aegis128l_open_start(key, nonce, ad, tag.len(), plain.len());
+    let p = session::starts::open_start(key, nonce, ad, tag.len(), plain.len());
     if p.answer != answers::DONE {
         return 0;
     }

@@ -192,7 +192,7 @@ pub fn cuttings(
     if buf.len() != n {
         return 0;
     }
-    let p = session::starts::aegis128l_seal_start(key, nonce, ad, tag.len());
+    let p = session::starts::seal_start(key, nonce, ad, tag.len());
     if p.answer != answers::DONE {
         return 0;
     }

@@ -12,13 +12,13 @@ use aes::AesBlock;
 
 pub mod starts;
 
-pub const SEALING: u8 = 0;
+pub const SEALING: usize = 0;
 
-pub const OPENING: u8 = 1;
+pub const OPENING: usize = 1;
 
-pub const MACING: u8 = 2;
+pub const MACING: usize = 2;
 
-pub const OVER: u8 = 3;
+pub const OVER: usize = 3;
 
 #[repr(C)]
 pub struct Session {
@@ -28,7 +28,7 @@ pub struct Session {
     pub ad_len: u64,
     pub msg_len: u64,
     pub tag_size: usize,
-    pub mark: u8,
+    pub mark: usize,
     pub room: usize,
     pub written: usize,
 }
@@ -120,7 +120,7 @@ pub fn well_formed(s: Session) -> bool
 }
 
 // Well formed, and of this kind.
-pub fn live(s: Session, kind: u8) -> bool
+pub fn live(s: Session, kind: usize) -> bool
     ensures { λ r. ⌜ r ≡ promise.live 32 kind (sessionOf s) ⌝ }
 {
     if s.mark == kind {

@@ -10,7 +10,7 @@ use crate::Piece;
 use crate::Session;
 use aegis128l::state::State;
 
-fn started(s: State, ad_len: u64, tag_size: usize, kind: u8, room: usize) -> Session
+fn started(s: State, ad_len: u64, tag_size: usize, kind: usize, room: usize) -> Session
     ensures { λ r. ⌜ sessionOf r ≡ promise.started aegis128l (stateOf s) «ad_len» «tag_size» kind room ⌝ }
 {
     let b = s.blocks;
@@ -35,13 +35,7 @@ fn keyed(key: &[u8], nonce: &[u8], ad: &[u8]) -> State
     aegis128l_core::absorb_ad(State::new(key, nonce, &t), ad, &t)
 }
 
-#[no_mangle]
-pub extern "C" fn aegis128l_seal_start(
-    key: &[u8],
-    nonce: &[u8],
-    ad: &[u8],
-    tag_size: usize,
-) -> Piece
+pub fn seal_start(key: &[u8], nonce: &[u8], ad: &[u8], tag_size: usize) -> Piece
     ensures { λ r. ⌜ SealStartMet aegis128l (now (key .entry)) (now (nonce .entry)) (now (ad .entry)) «tag_size» (r .answer) (sessionOf (r .session)) ⌝ }
 {
     let a = answers::once::start(16, tag_size, key.len(), nonce.len(), ad.len());
@@ -57,14 +51,7 @@ pub extern "C" fn aegis128l_seal_start(
 }
 
 // `room` is the length of the plaintext buffer, which is lent at each call.
-#[no_mangle]
-pub extern "C" fn aegis128l_open_start(
-    key: &[u8],
-    nonce: &[u8],
-    ad: &[u8],
-    tag_size: usize,
-    room: usize,
-) -> Piece
+pub fn open_start(key: &[u8], nonce: &[u8], ad: &[u8], tag_size: usize, room: usize) -> Piece
     ensures { λ r. ⌜ OpenStartMet aegis128l (now (key .entry)) (now (nonce .entry)) (now (ad .entry)) «tag_size» room (r .answer) (sessionOf (r .session)) ⌝ }
 {
     let a = answers::once::start(16, tag_size, key.len(), nonce.len(), ad.len());
@@ -79,8 +66,7 @@ pub extern "C" fn aegis128l_open_start(
     }
 }
 
-#[no_mangle]
-pub extern "C" fn aegis128l_mac_start(key: &[u8], nonce: &[u8], tag_size: usize) -> Piece
+pub fn mac_start(key: &[u8], nonce: &[u8], tag_size: usize) -> Piece
     ensures { λ r. ⌜ MacStartMet aegis128l (now (key .entry)) (now (nonce .entry)) «tag_size» (r .answer) (sessionOf (r .session)) ⌝ }
 {
     let a = answers::once::mac_start(16, tag_size, key.len(), nonce.len());

@@ -1,10 +1,60 @@
 // The thin form of sessions: the caller lends its session, and each call changes it in place. Each calls the function by value, and is
 // proved by one walk of the machine code for each shape (proofs/LentInOut.antt, LentIn.antt, LentOut.antt).
-ghost use Rattle.promises.specs.Met.{SealPieceMet, SealPieceInPlaceMet, SealFinishMet, OpenPieceMet, OpenFinishMet, AbortMet, MacPieceMet, MacFinishMet, MacFinishCheckMet};
+ghost use Rattle.promises.specs.Met.{SealStartMet, OpenStartMet, MacStartMet, SealPieceMet, SealPieceInPlaceMet, SealFinishMet, OpenPieceMet, OpenFinishMet, AbortMet, MacPieceMet, MacFinishMet, MacFinishCheckMet};
 ghost use Rattle.aegis128l.specs.Cipher.{aegis128l};
 ghost use Rattle.session.specs.View.{sessionOf};
 use session::Opened;
 use session::Session;
+
+// The starts only write the lent session: what it held does not matter.
+#[no_mangle]
+pub extern "C" fn aegis128l_seal_start(
+    s: &mut Session,
+    key: &[u8],
+    nonce: &[u8],
+    ad: &[u8],
+    tag_size: usize,
+) -> u8
+    ensures { λ r. ⌜ SealStartMet aegis128l (now (key .entry)) (now (nonce .entry)) (now (ad .entry))
+        «tag_size» r (sessionOf (now (s .exit))) ⌝ }
+{
+    let r = session::starts::seal_start(key, nonce, ad, tag_size);
+    *s = r.session;
+    r.answer
+}
+
+// `room` is the length of the plaintext buffer, which is lent at each call.
+#[no_mangle]
+pub extern "C" fn aegis128l_open_start(
+    s: &mut Session,
+    key: &[u8],
+    nonce: &[u8],
+    ad: &[u8],
+    tag_size: usize,
+    room: usize,
+) -> u8
+    ensures { λ r. ⌜ OpenStartMet aegis128l (now (key .entry)) (now (nonce .entry)) (now (ad .entry))
+        «tag_size» room r (sessionOf (now (s .exit))) ⌝ }
+{
+    let r = session::starts::open_start(key, nonce, ad, tag_size, room);
+    *s = r.session;
+    r.answer
+}
+
+#[no_mangle]
+pub extern "C" fn aegis128l_mac_start(
+    s: &mut Session,
+    key: &[u8],
+    nonce: &[u8],
+    tag_size: usize,
+) -> u8
+    ensures { λ r. ⌜ MacStartMet aegis128l (now (key .entry)) (now (nonce .entry))
+        «tag_size» r (sessionOf (now (s .exit))) ⌝ }
+{
+    let r = session::starts::mac_start(key, nonce, tag_size);
+    *s = r.session;
+    r.answer
+}
 
 #[no_mangle]
 pub extern "C" fn aegis128l_seal_piece(s: &mut Session, msg: &[u8], out: &mut [u8]) -> u8

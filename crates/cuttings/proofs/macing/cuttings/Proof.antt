@@ -19,8 +19,8 @@ returns-4 : tie.Need-returns-4
 returns-4 c =
     let at-everywhere = c .before .before in
     let at-if3 = at-everywhere .before .before .before in
-    let at-aegis128l-mac-start = at-if3 .before .before in
-    ((λ h. start-maced _ _ _ _ (at-aegis128l-mac-start .aegis128l-mac-start .ensures) (at-if3 .if3 .left) (at-everywhere .everywhere .ensures .0 h)), at-everywhere .everywhere .ensures .1)
+    let at-mac-start = at-if3 .before .before in
+    ((λ h. start-maced _ _ _ _ (at-mac-start .mac-start .ensures) (at-if3 .if3 .left) (at-everywhere .everywhere .ensures .0 h)), at-everywhere .everywhere .ensures .1)
 
 pub cuttings-spec : {M : Type 1} → statement M
 cuttings-spec =

@@ -22,8 +22,8 @@ returns-5 : tie.Need-returns-5
 returns-5 c =
     let at-everywhere = c .before .before .before .before in
     let at-if4 = at-everywhere .before .before .before in
-    let at-aegis128l-seal-start = at-if4 .before .before in
-    ((λ h. start-sealed _ _ _ _ _ _ (at-aegis128l-seal-start .aegis128l-seal-start .ensures) (at-if4 .if4 .left) (at-everywhere .everywhere .ensures .0 h)), at-everywhere .everywhere .ensures .1)
+    let at-seal-start = at-if4 .before .before in
+    ((λ h. start-sealed _ _ _ _ _ _ (at-seal-start .seal-start .ensures) (at-if4 .if4 .left) (at-everywhere .everywhere .ensures .0 h)), at-everywhere .everywhere .ensures .1)
 
 pub cuttings-spec : {M : Type 1} → statement M
 cuttings-spec =

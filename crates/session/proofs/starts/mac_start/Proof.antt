@@ -1,10 +1,10 @@
--- `aegis128l_mac_start` meets its contract: the ladder refuses, or the session starts at the state of key and nonce.
+-- `mac_start` meets its contract: the ladder refuses, or the session starts at the state of key and nonce.
 -- Assumes nothing.
 use borrow.Author.Needs.{needs}
 use Rattle.aegis128l.specs.Cipher.{aegis128l}
 use Rattle.session.proofs.StartCalls.{mac-refused, mac-done}
-use Rattle.session.proofs.starts.aegis128l_mac_start.Statement.{statement}
-use Rattle.session.proofs.starts.aegis128l_mac_start.Tie as tie
+use Rattle.session.proofs.starts.mac_start.Statement.{statement}
+use Rattle.session.proofs.starts.mac_start.Tie as tie
 
 returns : tie.Need-returns
 returns c = mac-refused aegis128l _ _ _ _ (c .before .before .mac-start .ensures) (c .before .if1 .taken) _ (c .over-with .ensures)
@@ -14,8 +14,8 @@ returns-2 c =
     let tested = c .before .before .before .before in
     mac-done aegis128l _ _ _ _ (tested .before .mac-start .ensures) (tested .if1 .left) _ _ (c .started .ensures) (c .before .new .ensures)
 
-pub aegis128l-mac-start-spec : {M : Type 1} → statement M
-aegis128l-mac-start-spec =
+pub mac-start-spec : {M : Type 1} → statement M
+mac-start-spec =
     tie.close
     (tie.spec
     (λ c κs. search needs)
