@@ -9,7 +9,7 @@ use lib.ListN.{length, replicate}
 use Rattle.machine.specs.Bytes.{zeros}
 use Rattle.aes.specs.Round.{xorOf}
 use Rattle.answers.specs.Answers.{tagSize}
-use Rattle.promises.specs.Cipher.{Cipher}
+use Rattle.promises.specs.Cipher.{Cipher, Mac}
 use Rattle.aegis128l.specs.Aegis128L.{Blocks, absorb, init, finalized, tag16, tag32, tagBy, tag, machine}
 
 -- a tag is as long as it was asked for
@@ -28,7 +28,9 @@ aegis128l = record {
   machine = machine;
   init = init;
   tag = tag;
-  macEmpty = λ s. absorb s (zeros 32);
   blank = replicate 8 (zeros 16);
   tag-length = tag-length;
 }
+
+abbrev pub aegis128lMac : Mac Blocks
+aegis128lMac = record { empty = λ s. absorb s (zeros 32) }

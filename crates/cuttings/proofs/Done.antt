@@ -11,7 +11,7 @@ use Rattle.machine.specs.Kinds.{silent}
 use Rattle.answers.specs.Answers as answers
 use Rattle.lent.specs.Lent.{same}
 use Rattle.lent.proofs.Same.{same-equal}
-use Rattle.promises.specs.Cipher.{Cipher}
+use Rattle.promises.specs.Cipher.{Cipher, Mac}
 use Rattle.promises.specs.OneShot.{onDone, onto, keyed}
 use Rattle.promises.specs.Session.{Session, Handed, Wrote, Opened, core, live, advanced, wroteMore, started, sealing, opening, macing}
 use Rattle.promises.specs.Session.{ended, sealStart, openStart, macStart, sealPiece, sealPieceInPlace, openPiece, macPiece}
@@ -89,9 +89,9 @@ module _ {S : Type 0} (C : Cipher S) where
         ap (λ (r : Wrote S). r .out)
         (done (λ (r : Wrote S). r .answer) (answers.finish (live rate sealing s) (length tag) (s .tagSize)) _ _ (λ b. refl) h)
 
-    pub macFinish-done : (tag : List ℕ) → macFinish C s tag .answer ≡ 0 → macFinish C s tag .out ≡ sessionMac C s
+    pub macFinish-done : (M : Mac S) (tag : List ℕ) → macFinish C M s tag .answer ≡ 0 → macFinish C M s tag .out ≡ sessionMac C M s
     unfolding macFinish
-    macFinish-done tag h =
+    macFinish-done M tag h =
         ap (λ (r : Wrote S). r .out)
         (done (λ (r : Wrote S). r .answer) (answers.finish (live rate macing s) (length tag) (s .tagSize)) _ _ (λ b. refl) h)
 

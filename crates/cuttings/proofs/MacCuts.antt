@@ -11,7 +11,7 @@ use Rattle.machine.specs.Kinds.{silent}
 use Rattle.promises.specs.Session.{Session, Handed, Wrote, sessionMac, macStart, macPiece, macFinish}
 use Rattle.promises.proofs.SessionAt.{macingAt, macing-start, macing-more, macing-tag}
 use Rattle.aegis128l.specs.Aegis128L.{Blocks, machine}
-use Rattle.aegis128l.specs.Cipher.{aegis128l}
+use Rattle.aegis128l.specs.Cipher.{aegis128l, aegis128lMac}
 use Rattle.recorded.specs.Records.{Maced}
 use Rattle.cuttings.specs.Pieces.{Macing, MacsTo}
 use Rattle.cuttings.proofs.Done.{macStart-done, macPiece-done, macFinish-done}
@@ -29,10 +29,10 @@ piece-maced s data′ e z = record {
 }
 
 pub finish-maced : (s : Session Blocks) (made : List ℕ) {tag o : List ℕ} {t : Session Blocks} {a : ℕ}
-    → _≡_ {A = Wrote Blocks} (record { answer = a; session = t; out = o }) (macFinish aegis128l s made) → a ≡ 0 → o ≡ tag
-    → tag ≡ sessionMac aegis128l s
+    → _≡_ {A = Wrote Blocks} (record { answer = a; session = t; out = o }) (macFinish aegis128l aegis128lMac s made) → a ≡ 0 → o ≡ tag
+    → tag ≡ sessionMac aegis128l aegis128lMac s
 finish-maced s made e z ot =
-    sym ot ∙ ap (λ (r : Wrote Blocks). r .out) e ∙ macFinish-done aegis128l s made (sym (ap (λ (r : Wrote Blocks). r .answer) e) ∙ z)
+    sym ot ∙ ap (λ (r : Wrote Blocks). r .out) e ∙ macFinish-done aegis128l s aegis128lMac made (sym (ap (λ (r : Wrote Blocks). r .answer) e) ∙ z)
 
 -- ---- piece by piece
 
@@ -54,14 +54,14 @@ module _ (s : Session Blocks) (data′ : List ℕ) where
             ∙ ap (fed (silent machine) enc s) (sym (parts-join i e data′ h));
       }
 
-  pub maced-all : (n : ℕ) {tag : List ℕ} (t : Session Blocks) → length data′ ≤ n → Macing s (take n data′) t → tag ≡ sessionMac aegis128l t
+  pub maced-all : (n : ℕ) {tag : List ℕ} (t : Session Blocks) → length data′ ≤ n → Macing s (take n data′) t → tag ≡ sessionMac aegis128l aegis128lMac t
       → MacsTo s data′ tag
   maced-all n t h p e =
       record { end = t; pieces = subst (λ (x : List ℕ). Macing s x t) (take-all n data′ h) p; tagged = e }
 
   -- in three parts
   pub maced-in-three : (i j : ℕ) {tag : List ℕ} {t u v : Session Blocks} → i ≤ j → j ≤ length data′ → Macing s (take (i - 0) (drop 0 data′)) t
-      → Macing t (take (j - i) (drop i data′)) u → Macing u (take (length data′ - j) (drop j data′)) v → tag ≡ sessionMac aegis128l v
+      → Macing t (take (j - i) (drop i data′)) u → Macing u (take (length data′ - j) (drop j data′)) v → tag ≡ sessionMac aegis128l aegis128lMac v
       → MacsTo s data′ tag
   maced-in-three i j {v = v} h k p q r e =
       maced-all (length data′) v (le-refl (length data′))
@@ -80,7 +80,7 @@ start-maced key nonce data′ tag {s = s} e z p =
     record {
       tagged =
           p .tagged
-          ∙ ap (sessionMac aegis128l)
+          ∙ ap (sessionMac aegis128l aegis128lMac)
           (p .pieces .session ∙ ap (λ (v : Session Blocks). fed (silent machine) enc v data′) began ∙ macing-more aegis128l key nonce n [] data′)
-          ∙ macing-tag aegis128l key nonce n data′;
+          ∙ macing-tag aegis128l aegis128lMac key nonce n data′;
     }

@@ -8,7 +8,7 @@ use Rattle.machine.specs.Machine.{enc, dec, after, out}
 use Rattle.machine.specs.Kinds.{silent}
 use Rattle.promises.specs.Session.{Session, core, advanced, wroteMore, sessionTag, sessionMac}
 use Rattle.aegis128l.specs.Aegis128L.{Blocks, machine}
-use Rattle.aegis128l.specs.Cipher.{aegis128l}
+use Rattle.aegis128l.specs.Cipher.{aegis128l, aegis128lMac}
 
 -- ---- from the session s to the session t
 
@@ -37,4 +37,4 @@ pub record Accepts (s : Session Blocks) (ct tag : List ℕ) : Type 0 where
 pub record MacsTo (s : Session Blocks) (data′ tag : List ℕ) : Type 0 where
   pub end : Session Blocks
   pub pieces : Macing s data′ end
-  pub tagged : tag ≡ sessionMac aegis128l end
+  pub tagged : tag ≡ sessionMac aegis128l aegis128lMac end

@@ -4,7 +4,7 @@ ghost use mathlib.Core.Bool.{true};
 ghost use Prim.Native.Nat.{_≤_, _<_, _+_};
 ghost use lib.ListN.{length};
 ghost use Rattle.promises.specs.Session.{sessionMac, macFinishCheck};
-ghost use Rattle.aegis128l.specs.Cipher.{aegis128l};
+ghost use Rattle.aegis128l.specs.Cipher.{aegis128l, aegis128lMac};
 ghost use Rattle.session.specs.View.{sessionOf};
 ghost use Rattle.recorded.specs.Records.{Maced};
 ghost use Rattle.cuttings.specs.Pieces.{Macing, MacsTo};
@@ -27,7 +27,7 @@ fn piece(s: Session, data: &[u8]) -> Step
 
 // The finish gives the tag.
 fn gives(s: Session, tag: &[u8], made: &mut [u8]) -> bool
-    ensures { λ r. ⌜ (r ≡ true → now (tag .entry) ≡ sessionMac aegis128l (sessionOf s)) ⌝ }
+    ensures { λ r. ⌜ (r ≡ true → now (tag .entry) ≡ sessionMac aegis128l aegis128lMac (sessionOf s)) ⌝ }
 {
     if made.len() != tag.len() {
         return false;
@@ -41,7 +41,7 @@ fn gives(s: Session, tag: &[u8], made: &mut [u8]) -> bool
 
 // The check at the end gives this answer.
 fn checked(s: Session, tag: &[u8], answer: u8) -> bool
-    ensures { λ r. ⌜ (r ≡ true → macFinishCheck aegis128l (sessionOf s) (now (tag .entry)) .answer ≡ answer) ⌝ }
+    ensures { λ r. ⌜ (r ≡ true → macFinishCheck aegis128l aegis128lMac (sessionOf s) (now (tag .entry)) .answer ≡ answer) ⌝ }
 {
     let p = session_finishes::mac_finish_check(s, tag);
     p.answer == answer
@@ -49,7 +49,7 @@ fn checked(s: Session, tag: &[u8], answer: u8) -> bool
 
 // A copied session goes on by itself: one is finished, one accepts the tag, and one refuses another.
 fn finish(s: Session, tag: &[u8], damaged: &[u8], made: &mut [u8]) -> bool
-    ensures { λ r. ⌜ (r ≡ true → now (tag .entry) ≡ sessionMac aegis128l (sessionOf s)) ⌝ }
+    ensures { λ r. ⌜ (r ≡ true → now (tag .entry) ≡ sessionMac aegis128l aegis128lMac (sessionOf s)) ⌝ }
 {
     if !gives(s, tag, made) {
         return false;

@@ -12,7 +12,7 @@ use Rattle.promises.specs.OneShot.{macState, macTag}
 use Rattle.aes.specs.Field.{xtime, mulBits, mul}
 use Rattle.aes.specs.Round.{mixed, xorOf}
 use Rattle.aegis128l.specs.Aegis128L.{Blocks, machine, absorb, loaded, init, lengthBlock, finalized, tag16, tag}
-use Rattle.aegis128l.specs.Cipher.{aegis128l}
+use Rattle.aegis128l.specs.Cipher.{aegis128l, aegis128lMac}
 use Rattle.draft_vectors.specs.Vectors.{hex}
 use Rattle.draft_vectors.proofs.Computing.{computed, absorbs}
 use Rattle.draft_vectors.proofs.Phases.{finally, is-final, absorbing, is-absorbing, starting, is-starting}
@@ -22,7 +22,7 @@ use Rattle.draft_vectors.proofs.Phases.{finally, is-final, absorbing, i
 ours : List ℕ
 ours = starting (zeros 16) (zeros 16) (absorbing (zeros 32) (finally 0 16 tag16))
 
-is-ours : ours ≡ macTag aegis128l (zeros 16) (zeros 16) [] 16
+is-ours : ours ≡ macTag aegis128l aegis128lMac (zeros 16) (zeros 16) [] 16
 unfolding ours macTag macState tag draftAbsorb absorbBlocks zeroPad blocks split
 is-ours =
     is-starting (zeros 16) (zeros 16) (absorbing (zeros 32) (finally 0 16 tag16))
@@ -33,7 +33,7 @@ ours-computes : ours ≡ hex 16 0xf4d997cc9b94227ada4fe4165422b1c8
 unfolding ours xtime mulBits mul mixed xorOf loaded lengthBlock tag16 zeroPad blocks split computed absorbs finally absorbing starting
 ours-computes = refl
 
-pub mac-of-nothing : macTag aegis128l (zeros 16) (zeros 16) [] 16 ≡ hex 16 0xf4d997cc9b94227ada4fe4165422b1c8
+pub mac-of-nothing : macTag aegis128l aegis128lMac (zeros 16) (zeros 16) [] 16 ≡ hex 16 0xf4d997cc9b94227ada4fe4165422b1c8
 mac-of-nothing = sym is-ours ∙ ours-computes
 
 -- ---- the draft's, which absorbs nothing
@@ -55,7 +55,7 @@ drafts-computes = refl
 pub draft-mac-of-nothing : tag (draftAbsorb machine (init (zeros 16) (zeros 16)) []) 0 16 16 ≡ hex 16 0xada15a2a09d214f19b1eb8b2db375063
 draft-mac-of-nothing = sym is-drafts ∙ drafts-computes
 
-pub macs-of-nothing-differ : macTag aegis128l (zeros 16) (zeros 16) [] 16 ≢ tag (draftAbsorb machine (init (zeros 16) (zeros 16)) []) 0 16 16
+pub macs-of-nothing-differ : macTag aegis128l aegis128lMac (zeros 16) (zeros 16) [] 16 ≢ tag (draftAbsorb machine (init (zeros 16) (zeros 16)) []) 0 16 16
 macs-of-nothing-differ e =
     let first : _≡_ {A = ℕ} 0xf4 0xad = ap (λ (t : List ℕ). getD t 0 0) (sym mac-of-nothing ∙ e ∙ draft-mac-of-nothing) in
     omega arith

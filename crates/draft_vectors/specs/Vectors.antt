@@ -4,7 +4,7 @@
 use Prim.Native.Nat.{ℕ, zero, suc, _/_, _%_, _^_}
 use mathlib.Core.List.{List, [], _∷_}
 use Rattle.promises.specs.OneShot.{ciphertext, sealTag, macTag}
-use Rattle.aegis128l.specs.Cipher.{aegis128l}
+use Rattle.aegis128l.specs.Cipher.{aegis128l, aegis128lMac}
 
 -- a number as n bytes, the highest first: bytes as the draft prints them
 abbrev pub hex : ℕ → ℕ → List ℕ
@@ -109,7 +109,7 @@ abbrev pub input : List ℕ
 input = hex 35 0x000102030405060708090a0b0c0d0e0f101112131415161718191a1b1c1d1e1f202122
 
 abbrev pub maced : Maced
-maced = record { tag16 = macTag aegis128l key nonce input 16; tag32 = macTag aegis128l key nonce input 32 }
+maced = record { tag16 = macTag aegis128l aegis128lMac key nonce input 16; tag32 = macTag aegis128l aegis128lMac key nonce input 32 }
 
 abbrev pub mac-must : Maced
 mac-must = record {

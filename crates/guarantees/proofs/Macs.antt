@@ -10,7 +10,7 @@ use Rattle.promises.proofs.MacAnswers.{mac-done}
 use Rattle.promises.proofs.Mac.{check-mac, one-mac}
 use Rattle.promises.proofs.Refusals.{mac-refusal-changes-nothing}
 use Rattle.promises.proofs.StreamTwice.{stream-xor-twice}
-use Rattle.aegis128l.specs.Cipher.{aegis128l}
+use Rattle.aegis128l.specs.Cipher.{aegis128l, aegis128lMac}
 use Rattle.oneshot.specs.Leaves.{left}
 use Rattle.guarantees.specs.Calls.{MacCall, MacCheckCall, StreamXorCall, RightSizes}
 use Rattle.guarantees.proofs.Sizes.{mac-sizes}
@@ -20,28 +20,28 @@ use Rattle.guarantees.proofs.Sizes.{mac-sizes}
 pub mac-works : (c : MacCall) → RightSizes (c .key) (c .nonce) [] (c .input) (c .tag) → c .answer ≡ 0
 mac-works c s =
     ap (λ (r : Left). r .answer)
-    (c .met ∙ mac-done aegis128l (c .key) (c .nonce) (c .input) (c .tag) (mac-sizes (c .key) (c .nonce) [] (c .input) (c .tag) s))
+    (c .met ∙ mac-done aegis128l aegis128lMac (c .key) (c .nonce) (c .input) (c .tag) (mac-sizes (c .key) (c .nonce) [] (c .input) (c .tag) s))
 
 pub mac-refusal : (c : MacCall) → c .answer ≢ 0 → c .tag′ ≡ c .tag
 mac-refusal c n =
     ap (λ (r : Left). r .out) (c .met)
-    ∙ mac-refusal-changes-nothing aegis128l (c .key) (c .nonce) (c .input) (c .tag) (λ z. n (ap (λ (r : Left). r .answer) (c .met) ∙ z))
+    ∙ mac-refusal-changes-nothing aegis128l aegis128lMac (c .key) (c .nonce) (c .input) (c .tag) (λ z. n (ap (λ (r : Left). r .answer) (c .met) ∙ z))
 
 -- ---- the check accepts the MAC that was made, and of each size no other tag
 
 pub made-is-accepted : (c : MacCall) (v : MacCheckCall) → c .answer ≡ 0
     → v .key ≡ c .key → v .nonce ≡ c .nonce → v .input ≡ c .input → v .tag ≡ c .tag′ → v .answer ≡ 0
 made-is-accepted c v h k n d t =
-    let tag : v .tag ≡ (macOf aegis128l (c .key) (c .nonce) (c .input) (c .tag)) .out = t ∙ ap (λ (r : Left). r .out) (c .met) in
+    let tag : v .tag ≡ (macOf aegis128l aegis128lMac (c .key) (c .nonce) (c .input) (c .tag)) .out = t ∙ ap (λ (r : Left). r .out) (c .met) in
     v .met
-    ∙ (λ i. macCheckOf aegis128l (k i) (n i) (d i) (tag i))
-    ∙ check-mac aegis128l (c .key) (c .nonce) (c .input) (c .tag) (ap (λ (r : Left). r .answer) (sym (c .met)) ∙ h)
+    ∙ (λ i. macCheckOf aegis128l aegis128lMac (k i) (n i) (d i) (tag i))
+    ∙ check-mac aegis128l aegis128lMac (c .key) (c .nonce) (c .input) (c .tag) (ap (λ (r : Left). r .answer) (sym (c .met)) ∙ h)
 
 pub one-is-accepted : (v w : MacCheckCall) → v .answer ≡ 0 → w .answer ≡ 0
     → w .key ≡ v .key → w .nonce ≡ v .nonce → w .input ≡ v .input → length (v .tag) ≡ length (w .tag) → v .tag ≡ w .tag
 one-is-accepted v w h h₂ k n d e =
-    one-mac aegis128l (v .key) (v .nonce) (v .input) (v .tag) (w .tag) (sym (v .met) ∙ h)
-    (sym (λ i. macCheckOf aegis128l (k i) (n i) (d i) (w .tag)) ∙ sym (w .met) ∙ h₂) e
+    one-mac aegis128l aegis128lMac (v .key) (v .nonce) (v .input) (v .tag) (w .tag) (sym (v .met) ∙ h)
+    (sym (λ i. macCheckOf aegis128l aegis128lMac (k i) (n i) (d i) (w .tag)) ∙ sym (w .met) ∙ h₂) e
 
 -- ---- stream xor twice is the message
 

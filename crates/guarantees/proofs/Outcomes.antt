@@ -4,7 +4,7 @@ use Prim.Native.Nat.{ℕ}
 use mathlib.Core.Path.{_≡_, refl, sym, ap, _∙_}
 use mathlib.Core.List.{List}
 use Rattle.promises.specs.OneShot.{SealLeft, Left, sealOf, openOf, macOf, macCheckOf, streamXorOf}
-use Rattle.aegis128l.specs.Cipher.{aegis128l}
+use Rattle.aegis128l.specs.Cipher.{aegis128l, aegis128lMac}
 use Rattle.guarantees.specs.Calls.{Under, SealCall, OpenCall, StreamXorCall, MacCall, MacCheckCall}
 
 module _ (c : SealCall) where
@@ -49,9 +49,9 @@ xoring key nonce buf =
 
 abbrev pub macing : List ℕ → List ℕ → List ℕ → List ℕ → MacCall
 macing key nonce input tag =
-    let r = macOf aegis128l key nonce input tag in
+    let r = macOf aegis128l aegis128lMac key nonce input tag in
     record { key = key; nonce = nonce; input = input; tag = tag; answer = r .answer; tag′ = r .out; met = refl }
 
 abbrev pub checking : List ℕ → List ℕ → List ℕ → List ℕ → MacCheckCall
 checking key nonce input tag =
-    record { key = key; nonce = nonce; input = input; tag = tag; answer = macCheckOf aegis128l key nonce input tag; met = refl }
+    record { key = key; nonce = nonce; input = input; tag = tag; answer = macCheckOf aegis128l aegis128lMac key nonce input tag; met = refl }

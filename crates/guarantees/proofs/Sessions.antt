@@ -23,7 +23,7 @@ use Rattle.promises.proofs.RunsCuttings.{Took, seal-took-cutting, open-every-cu
 use Rattle.promises.proofs.RunsOpening.{open-run-plain}
 use Rattle.promises.proofs.RunsVerdict.{open-run-was-live, open-run-message, open-run-yields, open-run-accepts, open-run-released}
 use Rattle.promises.proofs.RunsErasing.{Wiped, wrong-tag-erases, abort-erases}
-use Rattle.aegis128l.specs.Cipher.{aegis128l}
+use Rattle.aegis128l.specs.Cipher.{aegis128l, aegis128lMac}
 use Rattle.oneshot.specs.Leaves.{left}
 use Rattle.guarantees.specs.Calls.{Under, SealCall, MacCall, ciphertext}
 use Rattle.guarantees.proofs.Outcomes.{sealed, seal-answered, seal-out, seal-tag}
@@ -42,12 +42,12 @@ module _ (s : SealCall) (done : s .answer ≡ 0) where
 
 module _ (s : SealCall) (done : s .answer ≡ 0) (pieces : List (List ℕ)) (cut : joined pieces ≡ s .msg) where
   abbrev pub sealing : World (List (List ℕ))
-  sealing = sealRun aegis128l (s .under .key) (s .under .nonce) (s .under .ad) (length (s .tag)) [] (map sealPieceInPlace pieces)
+  sealing = sealRun aegis128l aegis128lMac (s .under .key) (s .under .nonce) (s .under .ad) (length (s .tag)) [] (map sealPieceInPlace pieces)
 
-  took : Took aegis128l 0 (begun aegis128l (sealStart aegis128l (s .under .key) (s .under .nonce) (s .under .ad) (length (s .tag)) .session) [])
+  took : Took aegis128l aegis128lMac 0 (begun aegis128l aegis128lMac (sealStart aegis128l (s .under .key) (s .under .nonce) (s .under .ad) (length (s .tag)) .session) [])
       (map sealPieceInPlace pieces) (joined pieces)
   took =
-      seal-took-cutting aegis128l (s .under .key) (s .under .nonce) (length (s .tag)) (s .under .ad) (starts s done) [] pieces
+      seal-took-cutting aegis128l aegis128lMac (s .under .key) (s .under .nonce) (length (s .tag)) (s .under .ad) (starts s done) [] pieces
       (subst (λ (xs : List ℕ). length xs ≤ limit) (sym cut) (sizes s done .msg-fits))
 
   taken : sealing .taken ≡ s .msg
@@ -55,14 +55,14 @@ module _ (s : SealCall) (done : s .answer ≡ 0) (pieces : List (List ℕ)) (cut
   taken = took .taken-is ∙ cut
 
   pub session-seals : (sealing .given ≡ ciphertext s)
-      × (hands aegis128l sealing (sealFinish (s .tag)) ≡ record { answer = 0; count = 0; out = s .tag′ })
+      × (hands aegis128l aegis128lMac sealing (sealFinish (s .tag)) ≡ record { answer = 0; count = 0; out = s .tag′ })
   unfolding sealRun
   session-seals =
       let gave = seal-gives s done in (
-        seal-run-given aegis128l (s .under .key) (s .under .nonce) (s .under .ad) (length (s .tag)) [] (map sealPieceInPlace pieces)
+        seal-run-given aegis128l aegis128lMac (s .under .key) (s .under .nonce) (s .under .ad) (length (s .tag)) [] (map sealPieceInPlace pieces)
             ∙ ap (promise.ciphertext aegis128l (s .under .key) (s .under .nonce) (s .under .ad)) taken
             ∙ sym (gave .0),
-        seal-run-finish aegis128l (s .under .key) (s .under .nonce) (s .under .ad) (length (s .tag)) [] (map sealPieceInPlace pieces)
+        seal-run-finish aegis128l aegis128lMac (s .under .key) (s .under .nonce) (s .under .ad) (length (s .tag)) [] (map sealPieceInPlace pieces)
             (took .is-live) (s .tag) refl
             ∙ ap (λ (t : List ℕ). record { answer = 0; count = 0; out = t })
             (ap (λ (m : List ℕ). promise.sealTag aegis128l (s .under .key) (s .under .nonce) (s .under .ad) m (length (s .tag))) taken ∙ sym (gave .1)),
@@ -73,7 +73,7 @@ module _ (s : SealCall) (done : s .answer ≡ 0) (pieces : List (List ℕ)) (cut
 module _ (s : SealCall) (done : s .answer ≡ 0) (pieces : List (List ℕ)) (cut : joined pieces ≡ ciphertext s)
     (plain : List ℕ) (room : length (s .msg) ≤ length plain) where
   abbrev pub opening : World (List (List ℕ))
-  opening = openRun aegis128l (s .under .key) (s .under .nonce) (s .under .ad) (length (s .tag)) plain (map openPiece pieces)
+  opening = openRun aegis128l aegis128lMac (s .under .key) (s .under .nonce) (s .under .ad) (length (s .tag)) plain (map openPiece pieces)
 
   text : joined pieces ≡ take (length (s .msg)) (sealed s .out)
   text = cut ∙ ap (take (length (s .msg))) (seal-out s)
@@ -88,16 +88,16 @@ module _ (s : SealCall) (done : s .answer ≡ 0) (pieces : List (List ℕ)) (cut
       (λ i. openOf aegis128l (s .under .key) (s .under .nonce) (s .under .ad) (text i) (seal-tag s i) plain)
       ∙ open-seal aegis128l (s .under .key) (s .under .nonce) (s .under .ad) (s .msg) (s .out) (s .tag) plain (seal-answered s 0 done) room
 
-  pub session-opens : hands aegis128l opening (openFinish (s .tag′)) ≡ record { answer = 0; count = length (s .msg); out = onto (s .msg) plain }
+  pub session-opens : hands aegis128l aegis128lMac opening (openFinish (s .tag′)) ≡ record { answer = 0; count = length (s .msg); out = onto (s .msg) plain }
   session-opens =
       let fits : length (joined pieces) ≤ limit = subst (λ (n : ℕ). n ≤ limit) (sym as-long) (sizes s done .msg-fits) in
       let held : length (joined pieces) ≤ length plain = subst (λ (n : ℕ). n ≤ length plain) (sym as-long) room in
       let size : length (s .tag′) ≡ length (s .tag) =
       ap length (seal-tag s) ∙ seal-tag-length aegis128l (s .under .key) (s .under .nonce) (s .under .ad) (s .msg) (s .out) (s .tag) in
-      let zero : hands aegis128l opening (openFinish (s .tag′)) .answer ≡ 0 =
-      open-every-cutting aegis128l (s .under .key) (s .under .nonce) (length (s .tag)) (s .under .ad) (starts s done) plain pieces held fits (s .tag′) size
+      let zero : hands aegis128l aegis128lMac opening (openFinish (s .tag′)) .answer ≡ 0 =
+      open-every-cutting aegis128l aegis128lMac (s .under .key) (s .under .nonce) (length (s .tag)) (s .under .ad) (starts s done) plain pieces held fits (s .tag′) size
       ∙ ap (λ (r : Left). r .answer) shot in
-      open-every-cutting-released aegis128l (s .under .key) (s .under .nonce) (length (s .tag)) (s .under .ad) (starts s done) plain pieces held fits (s .tag′) size
+      open-every-cutting-released aegis128l aegis128lMac (s .under .key) (s .under .nonce) (length (s .tag)) (s .under .ad) (starts s done) plain pieces held fits (s .tag′) size
       zero
       ∙ λ i. record { answer = 0; count = as-long i; out = (shot i) .out }
 
@@ -106,7 +106,7 @@ module _ (s : SealCall) (done : s .answer ≡ 0) (pieces : List (List ℕ)) (cut
 
 module _ (u : Under) (n : ℕ) (plain : List ℕ) (calls : List Call) (tag : List ℕ) where
   abbrev pub at-finish : World (List (List ℕ))
-  at-finish = openRun aegis128l (u .key) (u .nonce) (u .ad) n plain calls
+  at-finish = openRun aegis128l aegis128lMac (u .key) (u .nonce) (u .ad) n plain calls
 
   abbrev pub released : List ℕ
   released = take (length (at-finish .taken)) (at-finish .plain)
@@ -114,39 +114,39 @@ module _ (u : Under) (n : ℕ) (plain : List ℕ) (calls : List Call) (tag : Lis
   pub record WasSealed : Type 0 where
     pub text : at-finish .taken ≡ promise.ciphertext aegis128l (u .key) (u .nonce) (u .ad) released
     pub tagged : tag ≡ promise.sealTag aegis128l (u .key) (u .nonce) (u .ad) released n
-    pub left-is : hands aegis128l at-finish (openFinish tag) ≡ record { answer = 0; count = length released; out = onto released plain }
+    pub left-is : hands aegis128l aegis128lMac at-finish (openFinish tag) ≡ record { answer = 0; count = length released; out = onto released plain }
 
-  pub session-released-was-sealed : hands aegis128l at-finish (openFinish tag) .answer ≡ 0 → WasSealed
+  pub session-released-was-sealed : hands aegis128l aegis128lMac at-finish (openFinish tag) .answer ≡ 0 → WasSealed
   session-released-was-sealed h =
-      let l = open-run-was-live aegis128l (u .key) (u .nonce) (u .ad) n plain calls tag h in
-      let s = open-run-accepts aegis128l (u .key) (u .nonce) (u .ad) n plain calls l tag .0 h in
-      let m : released ≡ s .0 = open-run-yields aegis128l (u .key) (u .nonce) (u .ad) n plain calls l (s .0) (s .1) in
+      let l = open-run-was-live aegis128l aegis128lMac (u .key) (u .nonce) (u .ad) n plain calls tag h in
+      let s = open-run-accepts aegis128l aegis128lMac (u .key) (u .nonce) (u .ad) n plain calls l tag .0 h in
+      let m : released ≡ s .0 = open-run-yields aegis128l aegis128lMac (u .key) (u .nonce) (u .ad) n plain calls l (s .0) (s .1) in
       let held : at-finish .plain ≡ onto released plain =
-      open-run-plain aegis128l (u .key) (u .nonce) (u .ad) n plain calls l
-      ∙ ap (λ (x : List ℕ). onto x plain) (sym (open-run-message aegis128l (u .key) (u .nonce) (u .ad) n plain calls l)) in
+      open-run-plain aegis128l aegis128lMac (u .key) (u .nonce) (u .ad) n plain calls l
+      ∙ ap (λ (x : List ℕ). onto x plain) (sym (open-run-message aegis128l aegis128lMac (u .key) (u .nonce) (u .ad) n plain calls l)) in
       let count : length (at-finish .taken) ≡ length released =
-      sym (ap length (open-run-message aegis128l (u .key) (u .nonce) (u .ad) n plain calls l)
+      sym (ap length (open-run-message aegis128l aegis128lMac (u .key) (u .nonce) (u .ad) n plain calls l)
       ∙ plaintext-length aegis128l (u .key) (u .nonce) (u .ad) (at-finish .taken)) in
       record {
         text = s .1 ∙ ap (promise.ciphertext aegis128l (u .key) (u .nonce) (u .ad)) (sym m);
         tagged = s .2 ∙ ap (λ (x : List ℕ). promise.sealTag aegis128l (u .key) (u .nonce) (u .ad) x n) (sym m);
         left-is =
-            open-run-released aegis128l (u .key) (u .nonce) (u .ad) n plain calls l tag h
+            open-run-released aegis128l aegis128lMac (u .key) (u .nonce) (u .ad) n plain calls l tag h
             ∙ λ i. record { answer = 0; count = count i; out = held i };
       }
 
 -- ---- a MAC session gives the MAC, however the data is cut
 
 pub session-macs : (c : MacCall) → c .answer ≡ 0 → (pieces : List (List ℕ)) → joined pieces ≡ c .input
-    → let w = macRun aegis128l (c .key) (c .nonce) (length (c .tag)) [] (map macPiece pieces) in
-    (hands aegis128l w (macFinish (c .tag)) .answer ≡ 0) × (hands aegis128l w (macFinish (c .tag)) .out ≡ c .tag′)
+    → let w = macRun aegis128l aegis128lMac (c .key) (c .nonce) (length (c .tag)) [] (map macPiece pieces) in
+    (hands aegis128l aegis128lMac w (macFinish (c .tag)) .answer ≡ 0) × (hands aegis128l aegis128lMac w (macFinish (c .tag)) .out ≡ c .tag′)
 session-macs c done pieces cut =
-    let k = mac-zero aegis128l (c .key) (c .nonce) (c .input) (c .tag) (ap (λ (r : Left). r .answer) (sym (c .met)) ∙ done) in
+    let k = mac-zero aegis128l aegis128lMac (c .key) (c .nonce) (c .input) (c .tag) (ap (λ (r : Left). r .answer) (sym (c .met)) ∙ done) in
     let fits : length (joined pieces) ≤ limit = subst (λ (xs : List ℕ). length xs ≤ limit) (sym cut) (k .msg-fits) in
     let e =
     c .met
-    ∙ ap (λ (xs : List ℕ). promise.macOf aegis128l (c .key) (c .nonce) xs (c .tag)) (sym cut)
-    ∙ mac-every-cutting aegis128l (c .key) (c .nonce) (length (c .tag))
+    ∙ ap (λ (xs : List ℕ). promise.macOf aegis128l aegis128lMac (c .key) (c .nonce) xs (c .tag)) (sym cut)
+    ∙ mac-every-cutting aegis128l aegis128lMac (c .key) (c .nonce) (length (c .tag))
     (record { tag-size = k .tag-size; key-size = k .key-size; nonce-size = k .nonce-size }) [] pieces fits (c .tag) refl in
     (ap (λ (r : Left). r .answer) (sym e) ∙ done, ap (λ (r : Left). r .out) (sym e))
 
@@ -155,14 +155,14 @@ session-macs c done pieces cut =
 
 module _ (u : Under) (n : ℕ) (plain : List ℕ) (calls : List Call) where
   abbrev at-end : World (List (List ℕ))
-  at-end = openRun aegis128l (u .key) (u .nonce) (u .ad) n plain calls
+  at-end = openRun aegis128l aegis128lMac (u .key) (u .nonce) (u .ad) n plain calls
 
-  pub session-refuses : (tag : List ℕ) (later : List Call) → hands aegis128l at-end (openFinish tag) .answer ≡ 7
-      → Wiped aegis128l (u .key) (u .nonce) (u .ad) n plain (length (at-end .taken))
-      (openRun aegis128l (u .key) (u .nonce) (u .ad) n plain (calls ++ (openFinish tag ∷ later)))
-  session-refuses = wrong-tag-erases aegis128l (u .key) (u .nonce) (u .ad) n plain calls
+  pub session-refuses : (tag : List ℕ) (later : List Call) → hands aegis128l aegis128lMac at-end (openFinish tag) .answer ≡ 7
+      → Wiped aegis128l aegis128lMac (u .key) (u .nonce) (u .ad) n plain (length (at-end .taken))
+      (openRun aegis128l aegis128lMac (u .key) (u .nonce) (u .ad) n plain (calls ++ (openFinish tag ∷ later)))
+  session-refuses = wrong-tag-erases aegis128l aegis128lMac (u .key) (u .nonce) (u .ad) n plain calls
 
-  pub session-aborts : (later : List Call) → hands aegis128l at-end abort .answer ≡ 0
-      → Wiped aegis128l (u .key) (u .nonce) (u .ad) n plain (length (at-end .taken))
-      (openRun aegis128l (u .key) (u .nonce) (u .ad) n plain (calls ++ (abort ∷ later)))
-  session-aborts = abort-erases aegis128l (u .key) (u .nonce) (u .ad) n plain calls
+  pub session-aborts : (later : List Call) → hands aegis128l aegis128lMac at-end abort .answer ≡ 0
+      → Wiped aegis128l aegis128lMac (u .key) (u .nonce) (u .ad) n plain (length (at-end .taken))
+      (openRun aegis128l aegis128lMac (u .key) (u .nonce) (u .ad) n plain (calls ++ (abort ∷ later)))
+  session-aborts = abort-erases aegis128l aegis128lMac (u .key) (u .nonce) (u .ad) n plain calls

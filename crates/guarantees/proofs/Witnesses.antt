@@ -12,7 +12,7 @@ use Rattle.promises.proofs.Mac.{mac-done-zeros}
 use Rattle.promises.proofs.Refusals.{seal-refuses, open-refuses, mac-refuses, wrong-tag-zeros}
 use Rattle.promises.proofs.StreamTwice.{streamXor-done-zeros}
 use Rattle.promises.proofs.RunsWitness as runs
-use Rattle.aegis128l.specs.Cipher.{aegis128l}
+use Rattle.aegis128l.specs.Cipher.{aegis128l, aegis128lMac}
 use Rattle.guarantees.specs.Calls.{Under, SealCall, OpenCall, RightSizes, ciphertext}
 use Rattle.guarantees.proofs.Outcomes.{sealing, opening, xoring, macing}
 use Rattle.guarantees.proofs.Sealing.{seal-works, sealed-opens}
@@ -50,23 +50,23 @@ is-wrong = wrong-tag-zeros aegis128l
 pub are-refused : ((sealing blank [] [] []) .answer ≡ 1) × (((opening blank [] [] []) .answer ≡ 1) × ((macing (zeros 16) (zeros 16) [] []) .answer ≡ 1))
 are-refused = (
   seal-refuses aegis128l (zeros 16) (zeros 16) [] [] [],
-  (open-refuses aegis128l (zeros 16) (zeros 16) [] [] [], mac-refuses aegis128l (zeros 16) (zeros 16) []),
+  (open-refuses aegis128l (zeros 16) (zeros 16) [] [] [], mac-refuses aegis128l aegis128lMac (zeros 16) (zeros 16) []),
 )
 
 -- ---- the MAC, stream xor, and openings that are released, that end by a wrong tag and by an abort
 
 pub is-maced : (macing (zeros 16) (zeros 16) [] (zeros 16)) .answer ≡ 0
-is-maced = mac-done-zeros aegis128l
+is-maced = mac-done-zeros aegis128l aegis128lMac
 
 pub is-xored : (buf : List ℕ) → (xoring (zeros 16) (zeros 16) buf) .answer ≡ 0
 is-xored = streamXor-done-zeros aegis128l
 
 module _ (plain : List ℕ) (room : 5 ≤ length plain) where
-  pub is-released : (tag : List ℕ) × (hands aegis128l (runs.opened aegis128l plain) (openFinish tag) .answer ≡ 0)
-  is-released = runs.release-witness aegis128l plain room
+  pub is-released : (tag : List ℕ) × (hands aegis128l aegis128lMac (runs.opened aegis128l aegis128lMac plain) (openFinish tag) .answer ≡ 0)
+  is-released = runs.release-witness aegis128l aegis128lMac plain room
 
-  pub is-refused-at-the-end : (tag : List ℕ) × (hands aegis128l (runs.opened aegis128l plain) (openFinish tag) .answer ≡ 7)
-  is-refused-at-the-end = runs.wrong-tag-witness aegis128l plain room
+  pub is-refused-at-the-end : (tag : List ℕ) × (hands aegis128l aegis128lMac (runs.opened aegis128l aegis128lMac plain) (openFinish tag) .answer ≡ 7)
+  is-refused-at-the-end = runs.wrong-tag-witness aegis128l aegis128lMac plain room
 
-  pub is-aborted : hands aegis128l (runs.opened aegis128l plain) abort .answer ≡ 0
-  is-aborted = runs.abort-witness aegis128l plain room
+  pub is-aborted : hands aegis128l aegis128lMac (runs.opened aegis128l aegis128lMac plain) abort .answer ≡ 0
+  is-aborted = runs.abort-witness aegis128l aegis128lMac plain room

@@ -8,7 +8,7 @@ use mathlib.Core.Logic.{_⊎_}
 use mathlib.Core.List.{List}
 use lib.ListN.{length, take}
 use Rattle.promises.specs.Met.{SealMet, SealInPlaceMet, OpenMet, OpenInPlaceMet, StreamXorMet, MacMet, MacCheckMet}
-use Rattle.aegis128l.specs.Cipher.{aegis128l}
+use Rattle.aegis128l.specs.Cipher.{aegis128l, aegis128lMac}
 
 -- what a message is sealed and opened under
 pub record Under : Type 0 where
@@ -79,7 +79,7 @@ pub record MacCall : Type 0 where
   pub tag : List ℕ
   pub answer : ℕ
   pub tag′ : List ℕ
-  pub met : MacMet aegis128l key nonce input tag answer tag′
+  pub met : MacMet aegis128l aegis128lMac key nonce input tag answer tag′
 
 -- aegis128l_mac_check
 pub record MacCheckCall : Type 0 where
@@ -88,7 +88,7 @@ pub record MacCheckCall : Type 0 where
   pub input : List ℕ
   pub tag : List ℕ
   pub answer : ℕ
-  pub met : MacCheckMet aegis128l key nonce input tag answer
+  pub met : MacCheckMet aegis128l aegis128lMac key nonce input tag answer
 
 -- sizes that no call refuses: 16 bytes of key and of nonce, a tag of 16 or 32, at most 2^61-1 of AD and of message
 pub record RightSizes (key nonce ad text tag : List ℕ) : Type 0 where

@@ -6,14 +6,14 @@ use mathlib.Core.List.{List}
 use lib.ListN.{length}
 use Rattle.promises.specs.Met.{SealStartMet, OpenStartMet}
 use Rattle.promises.specs.Trace.{Made, Calls, none, _▸_, Met, OneBuffer}
-use Rattle.aegis128l.specs.Cipher.{aegis128l}
+use Rattle.aegis128l.specs.Cipher.{aegis128l, aegis128lMac}
 use Rattle.session.specs.declared.Session.{Session}
 use Rattle.session.specs.declared.Piece.{Piece}
 use Rattle.session.specs.View.{sessionOf}
 
 pub data CodeTrace (s₀ : Session) : Calls → Session → Type 0 where
   as-handed : CodeTrace s₀ none s₀
-  called : {cs : Calls} {s s′ : Session} → CodeTrace s₀ cs s → (c : Made) → Met aegis128l (sessionOf s) c (sessionOf s′) → CodeTrace s₀ (cs ▸ c) s′
+  called : {cs : Calls} {s s′ : Session} → CodeTrace s₀ cs s → (c : Made) → Met aegis128l aegis128lMac (sessionOf s) c (sessionOf s′) → CodeTrace s₀ (cs ▸ c) s′
 
 -- aegis128l_seal_start, and the calls behind it
 pub record Sealing (key nonce ad : List ℕ) (n : ℕ) (cs : Calls) : Type 0 where

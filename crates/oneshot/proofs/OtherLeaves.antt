@@ -16,7 +16,7 @@ use Rattle.lent.proofs.Wiped.{wiped-fits}
 use Rattle.promises.specs.OneShot.{Left, streamOf, streamXorOf, macTag, macOf, macCheckOf}
 use Rattle.promises.proofs.Ladder.{refuses, does}
 use Rattle.aegis128l.specs.Aegis128L.{Blocks, machine, init}
-use Rattle.aegis128l.specs.Cipher.{aegis128l}
+use Rattle.aegis128l.specs.Cipher.{aegis128l, aegis128lMac}
 use Rattle.oneshot.specs.Leaves.{left}
 
 module _ (key nonce buf : List ℕ) {b : ℕ} (answer : b ≡ stream 16 (length key) (length nonce)) where
@@ -43,21 +43,21 @@ module _ (key nonce buf : List ℕ) {b : ℕ} (answer : b ≡ stream 16 (length 
         (ap (left 0) (ey ∙ (λ i. streamXor machine (es i) (cleared i)) ∙ streamXor-zeros machine (init key nonce) (length buf)))
 
 module _ (key nonce data′ tag : List ℕ) {b : ℕ} (answer : b ≡ mac 16 (length tag) (length key) (length nonce) (length data′)) where
-  pub mac-refuses : (b ≡ 0 → ⊥) → left b tag ≡ macOf aegis128l key nonce data′ tag
+  pub mac-refuses : (b ≡ 0 → ⊥) → left b tag ≡ macOf aegis128l aegis128lMac key nonce data′ tag
   unfolding macOf
   mac-refuses h = refuses _ b _ _ answer h
 
-  pub macs-leaves : b ≡ 0 → {t : List ℕ} → t ≡ macTag aegis128l key nonce data′ (length tag) → left 0 t ≡ macOf aegis128l key nonce data′ tag
+  pub macs-leaves : b ≡ 0 → {t : List ℕ} → t ≡ macTag aegis128l aegis128lMac key nonce data′ (length tag) → left 0 t ≡ macOf aegis128l aegis128lMac key nonce data′ tag
   unfolding macOf
   macs-leaves z et = does _ b _ _ _ answer z (ap (left 0) et)
 
-  pub check-refuses : (b ≡ 0 → ⊥) → b ≡ macCheckOf aegis128l key nonce data′ tag
+  pub check-refuses : (b ≡ 0 → ⊥) → b ≡ macCheckOf aegis128l aegis128lMac key nonce data′ tag
   unfolding macCheckOf
   check-refuses h = refuses _ b _ _ answer h
 
   -- the verdict r
-  pub checks : b ≡ 0 → {t : List ℕ} {r : Bool} (v : Bool) → t ≡ macTag aegis128l key nonce data′ (length tag) → r ≡ same tag t → r ≡ v
-      → unless 7 v 0 ≡ macCheckOf aegis128l key nonce data′ tag
+  pub checks : b ≡ 0 → {t : List ℕ} {r : Bool} (v : Bool) → t ≡ macTag aegis128l aegis128lMac key nonce data′ (length tag) → r ≡ same tag t → r ≡ v
+      → unless 7 v 0 ≡ macCheckOf aegis128l aegis128lMac key nonce data′ tag
   unfolding macCheckOf
   checks z {t} {r} v et er ev =
       does _ b _ _ _ answer z (ap (λ (x : Bool). unless 7 x 0) (sym ev ∙ er ∙ ap (same tag) et))

@@ -12,7 +12,7 @@ use Rattle.machine.proofs.Cutting.{out-length}
 use Rattle.machine.proofs.Draft.{absorbs, encrypts, decrypts, decrypts-state}
 use Rattle.promises.specs.OneShot.{keyed, ciphertext, plaintext, sealTag, openTag, macState, macTag}
 use Rattle.aegis128l.specs.Aegis128L.{Blocks, machine, init, absorb, tag}
-use Rattle.aegis128l.specs.Cipher.{aegis128l}
+use Rattle.aegis128l.specs.Cipher.{aegis128l, aegis128lMac}
 
 module _ (key nonce ad xs : List ℕ) {s₀ s : Blocks} {c₀ : Core Blocks}
     (e₀ : s₀ ≡ init key nonce) (e₁ : s ≡ draftAbsorb machine s₀ ad) (e₂ : c₀ ≡ start machine s) where
@@ -47,18 +47,18 @@ module _ (key nonce ad xs : List ℕ) {s₀ s : Blocks} {c₀ : Core Blocks}
 -- ---- the MAC: of data, and of none
 
 pub macs : (s₀ : Blocks) (data′ : List ℕ) {s e : Blocks} → (length data′ ≡ 0 → ⊥) → s ≡ s₀ → e ≡ draftAbsorb machine s data′
-    → e ≡ macState aegis128l s₀ data′
+    → e ≡ macState aegis128l aegis128lMac s₀ data′
 unfolding macState
 macs s₀ [] some es ee = absurd (some refl)
 macs s₀ (x ∷ xs) some es ee = ee ∙ ap (λ (z : Blocks). draftAbsorb machine z (x ∷ xs)) es
 
 pub macs-none : (s₀ : Blocks) (data′ : List ℕ) {s e : Blocks} → length data′ ≡ 0 → s ≡ s₀ → e ≡ absorb s (zeros 32)
-    → e ≡ macState aegis128l s₀ data′
+    → e ≡ macState aegis128l aegis128lMac s₀ data′
 unfolding macState
 macs-none s₀ [] none es ee = ee ∙ ap (λ (z : Blocks). absorb z (zeros 32)) es
 macs-none s₀ (x ∷ xs) none es ee = absurd (suc-ne-zero (length xs) none)
 
-pub macs-tag : (key nonce data′ : List ℕ) {e : Blocks} {t : List ℕ} (n : ℕ) → e ≡ macState aegis128l (init key nonce) data′
-    → t ≡ tag e (length data′) n n → t ≡ macTag aegis128l key nonce data′ n
+pub macs-tag : (key nonce data′ : List ℕ) {e : Blocks} {t : List ℕ} (n : ℕ) → e ≡ macState aegis128l aegis128lMac (init key nonce) data′
+    → t ≡ tag e (length data′) n n → t ≡ macTag aegis128l aegis128lMac key nonce data′ n
 unfolding macTag
 macs-tag key nonce data′ n ee et = et ∙ ap (λ (z : Blocks). tag z (length data′) n n) ee

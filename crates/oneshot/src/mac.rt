@@ -4,14 +4,14 @@ ghost use Rattle.aes.specs.Field.{Table};
 ghost use Rattle.promises.specs.OneShot as promise;
 ghost use Rattle.promises.specs.Met.{MacMet, MacCheckMet};
 ghost use Rattle.aegis128l.specs.Aegis128L as draft;
-ghost use Rattle.aegis128l.specs.Cipher.{aegis128l};
+ghost use Rattle.aegis128l.specs.Cipher.{aegis128l, aegis128lMac};
 ghost use Rattle.aegis128l.specs.View.{stateOf};
 use aegis128l::state::State;
 
 // The state after key, nonce and data.
 fn mac_state(key: &[u8], nonce: &[u8], data: &[u8], t: &[u8; 256]) -> State
     requires { ⌜ Table (now t) ⌝ }
-    ensures { λ r. ⌜ stateOf r ≡ promise.macState aegis128l (draft.init (now (key .entry)) (now (nonce .entry))) (now («data» .entry)) ⌝ }
+    ensures { λ r. ⌜ stateOf r ≡ promise.macState aegis128l aegis128lMac (draft.init (now (key .entry)) (now (nonce .entry))) (now («data» .entry)) ⌝ }
 {
     let s = State::new(key, nonce, t);
     if data.len() == 0 {
@@ -23,7 +23,7 @@ fn mac_state(key: &[u8], nonce: &[u8], data: &[u8], t: &[u8; 256]) -> State
 
 #[no_mangle]
 pub extern "C" fn aegis128l_mac(key: &[u8], nonce: &[u8], data: &[u8], tag: &mut [u8]) -> u8
-    ensures { λ r. ⌜ MacMet aegis128l (now (key .entry)) (now (nonce .entry)) (now («data» .entry)) (now (tag .entry)) r (now (tag .exit)) ⌝ }
+    ensures { λ r. ⌜ MacMet aegis128l aegis128lMac (now (key .entry)) (now (nonce .entry)) (now («data» .entry)) (now (tag .entry)) r (now (tag .exit)) ⌝ }
 {
     let a = answers::once::mac(16, tag.len(), key.len(), nonce.len(), data.len());
     if a != answers::DONE {
@@ -37,7 +37,7 @@ pub extern "C" fn aegis128l_mac(key: &[u8], nonce: &[u8], data: &[u8], tag: &mut
 
 #[no_mangle]
 pub extern "C" fn aegis128l_mac_check(key: &[u8], nonce: &[u8], data: &[u8], tag: &[u8]) -> u8
-    ensures { λ r. ⌜ MacCheckMet aegis128l (now (key .entry)) (now (nonce .entry)) (now («data» .entry)) (now (tag .entry)) r ⌝ }
+    ensures { λ r. ⌜ MacCheckMet aegis128l aegis128lMac (now (key .entry)) (now (nonce .entry)) (now («data» .entry)) (now (tag .entry)) r ⌝ }
 {
     let a = answers::once::mac(16, tag.len(), key.len(), nonce.len(), data.len());
     if a != answers::DONE {

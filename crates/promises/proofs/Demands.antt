@@ -12,7 +12,7 @@ use lib.ListN.{length, take, drop, getD, replicate, length-append, length-replic
 use borrow.Author.Tests.{leb-true, leb-false}
 use Rattle.machine.specs.Bytes.{zeros}
 use Rattle.answers.specs.Answers.{limit}
-use Rattle.promises.specs.Cipher.{Cipher}
+use Rattle.promises.specs.Cipher.{Cipher, Mac}
 use Rattle.promises.specs.OneShot.{SealLeft, Left, onto, ciphertext, plaintext, sealTag, sealOf, openOf}
 use Rattle.promises.specs.Met.{SealMet, OpenMet, OpenInPlaceMet}
 use Rattle.promises.specs.Trace.{Made, openPiece, sealFinish, openFinish, Calls, _▸_, taken, given, input, Going, Refused, SealSession, OpenSession}
@@ -36,11 +36,11 @@ first-taken : {ps cs : Calls} → FirstOf ps cs → length (taken ps) ≤ length
 first-taken {ps} all-of = le-refl (length (taken ps))
 first-taken (and-more {cs} c f) = le-trans (first-taken f) (omega (arith, length-append (taken cs) (input c)))
 
-module _ {S : Type 0} (C : Cipher S) where
+module _ {S : Type 0} (C : Cipher S) (M : Mac S) where
   -- a byte that changed lies among those that were written
-  module _ {key nonce ad p₀ p : List ℕ} {n : ℕ} {cs : Calls} (t : OpenSession C key nonce ad n p₀ cs p) (r : Refused cs) where
-    wiped : erasing.Overwritten C key nonce ad n p₀ (length (taken cs)) p
-    wiped = erasing.open-session-overwritten C key nonce ad n p₀ t r
+  module _ {key nonce ad p₀ p : List ℕ} {n : ℕ} {cs : Calls} (t : OpenSession C M key nonce ad n p₀ cs p) (r : Refused cs) where
+    wiped : erasing.Overwritten C M key nonce ad n p₀ (length (taken cs)) p
+    wiped = erasing.open-session-overwritten C M key nonce ad n p₀ t r
 
     other-byte : (i : ℕ) → (getD p i 0 ≡ 0) ⊎ (getD p i 0 ≡ getD p₀ i 0)
     other-byte i = go (leb (length (taken cs)) i) refl
@@ -49,17 +49,17 @@ module _ {S : Type 0} (C : Cipher S) where
         go true e = inr (wiped .other-bytes i (leb-true (length (taken cs)) i e))
         go false e = inl (wiped .written-bytes i (omega (arith, leb-false (length (taken cs)) i e)))
 
-    changed-byte : {ps : Calls} → FirstOf ps cs → {q : List ℕ} → OpenSession C key nonce ad n p₀ ps q → (i : ℕ) → getD q i 0 ≢ getD p₀ i 0 → getD p i 0 ≡ 0
+    changed-byte : {ps : Calls} → FirstOf ps cs → {q : List ℕ} → OpenSession C M key nonce ad n p₀ ps q → (i : ℕ) → getD q i 0 ≢ getD p₀ i 0 → getD p i 0 ≡ 0
     changed-byte {ps} f u i d = go (leb (length (taken ps)) i) refl
       where
         go : (b : Bool) → leb (length (taken ps)) i ≡ b → getD p i 0 ≡ 0
-        go true e = absurd (d (erasing.open-session-untouched C key nonce ad n p₀ u i (leb-true (length (taken ps)) i e)))
+        go true e = absurd (d (erasing.open-session-untouched C M key nonce ad n p₀ u i (leb-true (length (taken ps)) i e)))
         go false e = wiped .written-bytes i (omega (arith, leb-false (length (taken ps)) i e, first-taken f))
 
-  pub demand-1 : Demand1 C
+  pub demand-1 : Demand1 C M
   demand-1 = record {
-    answered = answered C;
-    one-answer = one-answer C;
+    answered = answered C M;
+    one-answer = one-answer C M;
     wrong-tag = λ key nonce ad ct tag out r out′ m z.
         ap (λ (x : Left). x .out) m ∙ open-erases C key nonce ad ct tag out (sym (ap (λ (x : Left). x .answer) m) ∙ z);
     wrong-tag-in-place = λ key nonce ad buf tag r buf′ m z.
@@ -72,7 +72,7 @@ module _ {S : Type 0} (C : Cipher S) where
 
 -- ---- demand 3
 
-module _ {S : Type 0} (C : Cipher S) (key nonce ad : List ℕ) (n : ℕ) (fixed : Fixed C key nonce ad n) where
+module _ {S : Type 0} (C : Cipher S) (M : Mac S) (key nonce ad : List ℕ) (n : ℕ) (fixed : Fixed C key nonce ad n) where
   allowed : (k : ℕ) → k ≡ n → Allowed C key nonce ad k
   allowed k e = rw e (record { key-size = fixed .key-size; nonce-size = fixed .nonce-size; ad-fits = fixed .ad-fits; tag-size = fixed .tag-size })
 
@@ -107,7 +107,7 @@ module _ {S : Type 0} (C : Cipher S) (key nonce ad : List ℕ) (n : ℕ) (fixed 
         tagged = sym (c .2) ∙ ap (λ (r : SealLeft). r .tag) k ∙ ap (sealTag C key nonce ad msg) (size ∙ sym (a .own-size));
       }
 
-  pub demand-3 : Demand3 C key nonce ad n
+  pub demand-3 : Demand3 C M key nonce ad n
   demand-3 = record {
     has-form = λ msg within.
         let long : length (sealTag C key nonce ad msg n) ≡ n = sealTag-length C key nonce ad msg n (fixed .tag-size) in (
@@ -130,18 +130,18 @@ module _ {S : Type 0} (C : Cipher S) (key nonce ad : List ℕ) (n : ℕ) (fixed 
     yields = λ ct tag out r out′ m room msg f.
         let k = m ∙ opens-to C key nonce ad ct tag out (allowed (length tag) (f .own-size)) room msg (sealed-form msg ct tag f) in
         (ap (λ (x : Left). x .answer) k, ap (λ (x : Left). x .out) k);
-    seal-so-far = λ t. sealing.seal-session-given C key nonce ad n t;
-    open-so-far = λ {cs} {p₀} {p} {ct} {b} {b′} {a} t z. opening.open-session-piece-holds C key nonce ad n p₀ ct b a b′ t z .1 .buffer-is;
+    seal-so-far = λ t. sealing.seal-session-given C M key nonce ad n t;
+    open-so-far = λ {cs} {p₀} {p} {ct} {b} {b′} {a} t z. opening.open-session-piece-holds C M key nonce ad n p₀ ct b a b′ t z .1 .buffer-is;
     seal-finish = λ {cs} {tag} {tag′} {a} t g size.
-        let z = sealing.seal-session-finishes C key nonce ad n tag a tag′ t (sealing.seal-session-starts C key nonce ad n t (allowed n refl)) g size .0 in
-        let f = sealing.seal-session-form C key nonce ad n tag a tag′ t z in
+        let z = sealing.seal-session-finishes C M key nonce ad n tag a tag′ t (sealing.seal-session-starts C M key nonce ad n t (allowed n refl)) g size .0 in
+        let f = sealing.seal-session-form C M key nonce ad n tag a tag′ t z in
         (z, form-sealed (taken cs) (given cs) tag′ (f .1) (f .0));
     open-finish = λ {cs} {p₀} {p} {tag} {b} {b′} {a} {k} t g size own out r out′ m room.
-        let started = opening.open-session-starts C key nonce ad n p₀ t (allowed n refl) in
-        let same = opening.open-session-verdict C key nonce ad n p₀ tag b a k b′ t started g own size out r out′ m room in (
+        let started = opening.open-session-starts C M key nonce ad n p₀ t (allowed n refl) in
+        let same = opening.open-session-verdict C M key nonce ad n p₀ tag b a k b′ t started g own size out r out′ m room in (
           same,
           λ z.
-              let x = opening.open-session-released C key nonce ad n p₀ tag b a k b′ t z in
+              let x = opening.open-session-released C M key nonce ad n p₀ tag b a k b′ t z in
               let msg = x .0 in
               let long = form-length C key nonce ad msg (taken cs) tag (x .1 .form) in
               let shot = m ∙ opens-to C key nonce ad (taken cs) tag out (allowed (length tag) size) room msg (x .1 .form) in (
@@ -151,20 +151,20 @@ module _ {S : Type 0} (C : Cipher S) (key nonce ad : List ℕ) (n : ℕ) (fixed 
               ),
         );
     open-finish-accepts = λ {cs} {p₀} {p} {tag} {b} {b′} {a} {k} t g size own.
-        let started = opening.open-session-starts C key nonce ad n p₀ t (allowed n refl) in
-        let both = opening.open-session-accepts C key nonce ad n p₀ tag b a k b′ t started g own in (
+        let started = opening.open-session-starts C M key nonce ad n p₀ t (allowed n refl) in
+        let both = opening.open-session-accepts C M key nonce ad n p₀ tag b a k b′ t started g own in (
           (λ z. let f = both .0 z in (f .0, form-sealed (f .0) (taken cs) tag (f .2) size)),
           λ f. both .1 (f .0, size, sealed-form (f .0) (taken cs) tag (f .1)),
         );
     open-finish-yields = λ {cs} {p₀} {p} {tag} {b} {b′} {a} {k} t z.
-        let x = opening.open-session-released C key nonce ad n p₀ tag b a k b′ t z in
+        let x = opening.open-session-released C M key nonce ad n p₀ tag b a k b′ t z in
         (x .0, form-sealed (x .0) (taken cs) tag (x .1 .form) (x .1 .tag-size), x .1 .count-is, x .1 .buffer-is);
     recut = λ {cs} {ds} {tag₁} {tag₁′} {a₁} {p₀} {p} {tag} {b} {b′} {a} {k} s z t g own text same.
-        let f = sealing.seal-session-form C key nonce ad n tag₁ a₁ tag₁′ s z in
+        let f = sealing.seal-session-form C M key nonce ad n tag₁ a₁ tag₁′ s z in
         let sealed : SealedForm C key nonce ad (taken cs) (taken ds) tag = rw (text, same) (f .1) in
-        let started = opening.open-session-starts C key nonce ad n p₀ t (allowed n refl) in
-        let zero = opening.open-session-accepts C key nonce ad n p₀ tag b a k b′ t started g own .1 (taken cs, ap length same ∙ f .0, sealed) in
-        let x = opening.open-session-released C key nonce ad n p₀ tag b a k b′ t zero in
+        let started = opening.open-session-starts C M key nonce ad n p₀ t (allowed n refl) in
+        let zero = opening.open-session-accepts C M key nonce ad n p₀ tag b a k b′ t started g own .1 (taken cs, ap length same ∙ f .0, sealed) in
+        let x = opening.open-session-released C M key nonce ad n p₀ tag b a k b′ t zero in
         let m : x .0 ≡ taken cs = one-message C key nonce ad (x .0) (taken cs) (taken ds) tag tag (x .1 .form) sealed in
         (zero, x .1 .count-is ∙ ap length m, x .1 .buffer-is ∙ ap (λ (xs : List ℕ). onto xs p₀) m);
   }

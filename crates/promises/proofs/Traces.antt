@@ -15,7 +15,7 @@ use Rattle.machine.specs.Machine.{Machine}
 use Rattle.answers.specs.Answers as answers
 use Rattle.answers.proofs.Answers.{open-piece-ok, open-finish-ok, abort-ok}
 use Rattle.lent.specs.Lent.{same}
-use Rattle.promises.specs.Cipher.{Cipher}
+use Rattle.promises.specs.Cipher.{Cipher, Mac}
 use Rattle.promises.specs.OneShot.{onDone}
 use Rattle.promises.specs.Session.{sealing, opening, macing, Session, Handed, Wrote, Opened, live, abortLive, ifOpening, pick, ended}
 use Rattle.promises.specs.Session as session
@@ -68,7 +68,7 @@ pub counts-refused : (a : ℕ) (xs : List ℕ) → a ≢ 0 → counts a xs ≡ [
 counts-refused zero xs n = absurd (n refl)
 counts-refused (suc a) xs n = refl
 
-module _ {S : Type 0} (C : Cipher S) where
+module _ {S : Type 0} (C : Cipher S) (M : Mac S) where
   open Cipher C using (machine)
   open Machine machine using (rate)
 
@@ -112,7 +112,7 @@ module _ {S : Type 0} (C : Cipher S) where
   handed-left e = ap (λ (r : Handed S). r .session) e
 
   -- a call that does not end a session keeps its kind
-  pub goes : (s s′ : Session S) (c : Made) → Met C s c s′ → (Ended c → ⊥) → Goes s s′
+  pub goes : (s s′ : Session S) (c : Made) → Met C M s c s′ → (Ended c → ⊥) → Goes s s′
   goes s s′ (sealPiece msg out a out′) m n = subst (Goes s) (sym (wrote-left m)) (sealPiece-goes s msg out)
   goes s s′ (sealPieceInPlace buf a buf′) m n = subst (Goes s) (sym (wrote-left m)) (sealPieceInPlace-goes s buf)
   goes s s′ (openPiece ct plain a plain′) m n = subst (Goes s) (sym (wrote-left m)) (openPiece-goes s ct plain)
@@ -123,13 +123,13 @@ module _ {S : Type 0} (C : Cipher S) where
       stays s s′ (ap (λ (r : Opened S). r .session) (m ∙ calls.openFinish-refused C s tag plain
       (λ z. n (subst Ends (sym (ap (λ (r : Opened S). r .answer) m)) z))))
   goes s s′ (macFinish tag a tag′) m n =
-      stays s s′ (wrote-left (m ∙ calls.macFinish-refused C s tag (λ z. n (ap (λ (r : Wrote S). r .answer) m ∙ z))))
+      stays s s′ (wrote-left (m ∙ calls.macFinish-refused C M s tag (λ z. n (ap (λ (r : Wrote S). r .answer) m ∙ z))))
   goes s s′ (macFinishCheck tag a) m n =
-      stays s s′ (handed-left (m ∙ calls.macFinishCheck-refused C s tag (λ z. n (subst Ends (sym (ap (λ (r : Handed S). r .answer) m)) z))))
+      stays s s′ (handed-left (m ∙ calls.macFinishCheck-refused C M s tag (λ z. n (subst Ends (sym (ap (λ (r : Handed S). r .answer) m)) z))))
   goes s s′ (abort plain a plain′) m n =
       stays s s′ (wrote-left (m ∙ calls.abort-refused C s plain (λ z. n (ap (λ (r : Wrote S). r .answer) m ∙ z))))
 
-  pub going-goes : {s₀ s : Session S} {cs : Calls} → Trace C s₀ cs s → Going cs → Goes s₀ s
+  pub going-goes : {s₀ s : Session S} {cs : Calls} → Trace C M s₀ cs s → Going cs → Goes s₀ s
   going-goes at-start g = (refl, refl)
   going-goes (made {s = s} {s′ = s′} t c m) g =
       let before = going-goes t (g .0) in
@@ -146,13 +146,13 @@ module _ {S : Type 0} (C : Cipher S) where
       onDone-cases (λ (r : Wrote S). Moves s (r .session)) (answers.finish (live rate sealing s) (length tag) (s .tagSize)) _ _
       (λ b e. inl (refl, refl)) (λ e. inr refl)
 
-  macFinish-moves : (s : Session S) (tag : List ℕ) → Moves s (session.macFinish C s tag .session)
+  macFinish-moves : (s : Session S) (tag : List ℕ) → Moves s (session.macFinish C M s tag .session)
   unfolding session.macFinish
   macFinish-moves s tag =
       onDone-cases (λ (r : Wrote S). Moves s (r .session)) (answers.finish (live rate macing s) (length tag) (s .tagSize)) _ _
       (λ b e. inl (refl, refl)) (λ e. inr refl)
 
-  macFinishCheck-moves : (s : Session S) (tag : List ℕ) → Moves s (session.macFinishCheck C s tag .session)
+  macFinishCheck-moves : (s : Session S) (tag : List ℕ) → Moves s (session.macFinishCheck C M s tag .session)
   unfolding session.macFinishCheck
   macFinishCheck-moves s tag =
       onDone-cases (λ (r : Handed S). Moves s (r .session)) (answers.finish (live rate macing s) (length tag) (s .tagSize)) _ _
@@ -176,7 +176,7 @@ module _ {S : Type 0} (C : Cipher S) where
       (answers.abort (abortLive C s) (ifOpening s (eqb (length plain) (s .room)) true)) _ _
       (λ b e. inl (refl, refl)) (λ e. inr refl)
 
-  moves : (s s′ : Session S) (c : Made) → Met C s c s′ → Moves s s′
+  moves : (s s′ : Session S) (c : Made) → Met C M s c s′ → Moves s s′
   moves s s′ (sealPiece msg out a out′) m = inl (goes s s′ (sealPiece msg out a out′) m (λ z. z))
   moves s s′ (sealPieceInPlace buf a buf′) m = inl (goes s s′ (sealPieceInPlace buf a buf′) m (λ z. z))
   moves s s′ (openPiece ct plain a plain′) m = inl (goes s s′ (openPiece ct plain a plain′) m (λ z. z))
@@ -191,7 +191,7 @@ module _ {S : Type 0} (C : Cipher S) where
   abbrev pub Opener : Session S → Session S → Type 0
   Opener s₀ s = s .mark ≡ opening → (s₀ .mark ≡ opening) × (s .room ≡ s₀ .room)
 
-  pub opener : {s₀ s : Session S} {cs : Calls} → Trace C s₀ cs s → Opener s₀ s
+  pub opener : {s₀ s : Session S} {cs : Calls} → Trace C M s₀ cs s → Opener s₀ s
   unfolding ended
   opener at-start e = (e, refl)
   opener (made {s = s} {s′ = s′} t c m) e =
@@ -245,14 +245,14 @@ module _ {S : Type 0} (C : Cipher S) where
 
   data Walk (s₀ : Session S) (p₀ : List ℕ) : Calls → Session S → List ℕ → Type 0 where
     begins : Walk s₀ p₀ none s₀ p₀
-    walks : {cs : Calls} {s s′ : Session S} {p p′ : List ℕ} → Walk s₀ p₀ cs s p → (c : Made) → Met C s c s′ → Fits s p c p′
+    walks : {cs : Calls} {s s′ : Session S} {p p′ : List ℕ} → Walk s₀ p₀ cs s p → (c : Made) → Met C M s c s′ → Fits s p c p′
         → Walk s₀ p₀ (cs ▸ c) s′ p′
 
-  walk-any : (p : List ℕ) {s₀ s : Session S} {cs : Calls} → s₀ .mark ≢ opening → Trace C s₀ cs s → Walk s₀ p cs s p
+  walk-any : (p : List ℕ) {s₀ s : Session S} {cs : Calls} → s₀ .mark ≢ opening → Trace C M s₀ cs s → Walk s₀ p cs s p
   walk-any p n at-start = begins
   walk-any p n (made {s = s} t c m) = walks (walk-any p n t) c m (fits-any s p c (λ e. n (opener t e .0)))
 
-  walk-one : {p₀ p : List ℕ} {s₀ s : Session S} {cs : Calls} → (s₀ .mark ≡ opening → s₀ .room ≡ length p₀) → Trace C s₀ cs s → OneBuffer p₀ cs p
+  walk-one : {p₀ p : List ℕ} {s₀ s : Session S} {cs : Calls} → (s₀ .mark ≡ opening → s₀ .room ≡ length p₀) → Trace C M s₀ cs s → OneBuffer p₀ cs p
       → Walk s₀ p₀ cs s p
   walk-one r at-start at-first = begins
   walk-one {p₀ = p₀} r (made {s = s} t c m) (kept {p = p} {p′ = p′} b _ k) =
@@ -309,13 +309,13 @@ module _ {S : Type 0} (C : Cipher S) where
 
   -- what a call that was made is to the run: one of its calls; or refused, and none of them; or the abort of a session that opens nothing
   pub data Steps (w : World S) (c : Made) (w′ : World S) : Type 0 where
-    as-run : step C w (callOf c) ≡ w′ → hands C w (callOf c) ≡ result c → Steps w c w′
+    as-run : step C M w (callOf c) ≡ w′ → hands C M w (callOf c) ≡ result c → Steps w c w′
     passed : w′ ≡ w → (Ends (result c .answer) → ⊥) → Steps w c w′
-    closed : step C w (callOf c) ≡ w′ → hands C w (callOf c) .answer ≡ result c .answer → Steps w c w′
+    closed : step C M w (callOf c) ≡ w′ → hands C M w (callOf c) .answer ≡ result c .answer → Steps w c w′
 
   -- what was accepted, or ended the session, is a call of the run
   pub steps-as-run : {w w′ : World S} {c : Made} → Steps w c w′ → Ends (result c .answer)
-      → (step C w (callOf c) ≡ w′) × (hands C w (callOf c) .answer ≡ result c .answer)
+      → (step C M w (callOf c) ≡ w′) × (hands C M w (callOf c) .answer ≡ result c .answer)
   steps-as-run (as-run e h) a = (e, ap (λ (r : Result). r .answer) h)
   steps-as-run (passed e n) a = absurd (n a)
   steps-as-run (closed e h) a = (e, h)
@@ -329,24 +329,24 @@ module _ {S : Type 0} (C : Cipher S) where
     nothing-more c e q i o =
         λ k. record { session = e k; plain = q k; taken = (ap (λ (xs : List ℕ). taken cs ++ xs) i ∙ append-nil (taken cs)) k; given = (ap (λ (xs : List ℕ). given cs ++ xs) o ∙ append-nil (given cs)) k }
 
-    steps : (c : Made) → Met C s c s′ → Fits s p c p′ → Steps w c (world s′ p′ (cs ▸ c))
+    steps : (c : Made) → Met C M s c s′ → Fits s p c p′ → Steps w c (world s′ p′ (cs ▸ c))
     unfolding step hands
     steps (sealPiece msg out a out′) m q =
         as-run
-        (ap (λ (r : Wrote S). took C w (r .answer) (r .session) p msg (r .out)) (sym m)
+        (ap (λ (r : Wrote S). took C M w (r .answer) (r .session) p msg (r .out)) (sym m)
         ∙ λ k. record { session = s′; plain = sym q k; taken = counted-in a (taken cs) msg k; given = counted-in a (given cs) out′ k })
-        (ap (wrote C) (sym m))
+        (ap (wrote C M) (sym m))
     steps (sealPieceInPlace buf a buf′) m q =
         as-run
-        (ap (λ (r : Wrote S). took C w (r .answer) (r .session) p buf (r .out)) (sym m)
+        (ap (λ (r : Wrote S). took C M w (r .answer) (r .session) p buf (r .out)) (sym m)
         ∙ λ k. record { session = s′; plain = sym q k; taken = counted-in a (taken cs) buf k; given = counted-in a (given cs) buf′ k })
-        (ap (wrote C) (sym m))
+        (ap (wrote C M) (sym m))
     steps (openPiece ct buf a buf′) m (inl (e, q)) =
         let n = sym (m ∙ ap (session.openPiece C s ct) e) in
         as-run
-        (ap (λ (r : Wrote S). took C w (r .answer) (r .session) (r .out) ct []) n
+        (ap (λ (r : Wrote S). took C M w (r .answer) (r .session) (r .out) ct []) n
         ∙ λ k. record { session = s′; plain = sym q k; taken = counted-in a (taken cs) ct k; given = counted-none a (given cs) k })
-        (ap (wrote C) n)
+        (ap (wrote C M) n)
     steps (openPiece ct buf a buf′) m (inr (n, q)) =
         let answered = ap (λ (r : Wrote S). r .answer) m in
         let refused : Ends a → ⊥ = λ z. let l = openPiece-lent s ct buf (subst Ends answered z) in n (l .0) (l .1) in
@@ -354,19 +354,19 @@ module _ {S : Type 0} (C : Cipher S) where
         (wrote-left (m ∙ calls.openPiece-refused C s ct buf (λ z. refused (inl (answered ∙ z))))) q (counts-refused a ct (λ z. refused (inl z))) refl) refused
     steps (macPiece data′ a) m q =
         as-run
-        (ap (λ (r : Handed S). took C w (r .answer) (r .session) p data′ []) (sym m)
+        (ap (λ (r : Handed S). took C M w (r .answer) (r .session) p data′ []) (sym m)
         ∙ λ k. record { session = s′; plain = sym q k; taken = counted-in a (taken cs) data′ k; given = counted-none a (given cs) k })
-        (ap (handed C) (sym m))
+        (ap (handed C M) (sym m))
     steps (sealFinish tag a tag′) m q =
         as-run
         (λ k. record { session = wrote-left (sym m) k; plain = sym q k; taken = sym (append-nil (taken cs)) k; given = sym (append-nil (given cs)) k })
-        (ap (wrote C) (sym m))
+        (ap (wrote C M) (sym m))
     steps (openFinish tag buf a n buf′) m (inl (e, q)) =
         let o = sym (m ∙ ap (session.openFinish C s tag) e) in
         as-run
-        (ap (λ (r : Opened S). left C w (r .session) (r .out)) o
+        (ap (λ (r : Opened S). left C M w (r .session) (r .out)) o
         ∙ λ k. record { session = s′; plain = sym q k; taken = sym (append-nil (taken cs)) k; given = sym (append-nil (given cs)) k })
-        (ap (counted C) o)
+        (ap (counted C M) o)
     steps (openFinish tag buf a k buf′) m (inr (n, q)) =
         let answered = ap (λ (r : Opened S). r .answer) m in
         let refused : Ends a → ⊥ = λ z. let l = openFinish-lent s tag buf (subst Ends answered z) in n (l .0) (l .1) in
@@ -376,17 +376,17 @@ module _ {S : Type 0} (C : Cipher S) where
     steps (macFinish tag a tag′) m q =
         as-run
         (λ k. record { session = wrote-left (sym m) k; plain = sym q k; taken = sym (append-nil (taken cs)) k; given = sym (append-nil (given cs)) k })
-        (ap (wrote C) (sym m))
+        (ap (wrote C M) (sym m))
     steps (macFinishCheck tag a) m q =
         as-run
         (λ k. record { session = handed-left (sym m) k; plain = sym q k; taken = sym (append-nil (taken cs)) k; given = sym (append-nil (given cs)) k })
-        (ap (handed C) (sym m))
+        (ap (handed C M) (sym m))
     steps (abort buf a buf′) m (inl (e, q)) =
         let o = sym (m ∙ ap (session.abort C s) e) in
         as-run
-        (ap (λ (r : Wrote S). left C w (r .session) (r .out)) o
+        (ap (λ (r : Wrote S). left C M w (r .session) (r .out)) o
         ∙ λ k. record { session = s′; plain = sym q k; taken = sym (append-nil (taken cs)) k; given = sym (append-nil (given cs)) k })
-        (ap (wrote C) o)
+        (ap (wrote C M) o)
     steps (abort buf a buf′) m (inr (n, q)) = kinds (eqb (s .mark) opening) refl
       where
         answered : a ≡ session.abort C s buf .answer
@@ -400,7 +400,7 @@ module _ {S : Type 0} (C : Cipher S) where
         kinds false o =
             let i = abort-any s buf p o in
             closed
-            (ap (λ (r : Wrote S). left C w (r .session) (r .out)) i
+            (ap (λ (r : Wrote S). left C M w (r .session) (r .out)) i
             ∙ λ k. record { session = wrote-left (sym m) k; plain = sym q k; taken = sym (append-nil (taken cs)) k; given = sym (append-nil (given cs)) k })
             (ap (λ (r : Wrote S). r .answer) i ∙ sym answered)
 
@@ -417,35 +417,35 @@ module _ {S : Type 0} (C : Cipher S) where
 
   pub record IsRun (s₀ : Session S) (p₀ : List ℕ) (cs : Calls) (s : Session S) (p : List ℕ) : Type 0 where
     pub run-of : List Call
-    pub stands : run C (begun C s₀ p₀) run-of ≡ world s p cs
-    pub answered : Answered cs (results C (begun C s₀ p₀) run-of)
+    pub stands : run C M (begun C M s₀ p₀) run-of ≡ world s p cs
+    pub answered : Answered cs (results C M (begun C M s₀ p₀) run-of)
 
   one-more : {s₀ s s′ : Session S} {p₀ p p′ : List ℕ} {cs : Calls} (c : Made) → IsRun s₀ p₀ cs s p → Steps (world s p cs) c (world s′ p′ (cs ▸ c))
       → IsRun s₀ p₀ (cs ▸ c) s′ p′
   unfolding results
   one-more {s₀} {s} {s′} {p₀} {p} {p′} {cs} c i (as-run e h) =
-      let w₀ = begun C s₀ p₀ in
+      let w₀ = begun C M s₀ p₀ in
       let d = callOf c in
       record {
         run-of = i .run-of ++ (d ∷ []);
-        stands = run-snoc C w₀ (i .run-of) d ∙ ap (λ (v : World S). step C v d) (i .stands) ∙ e;
+        stands = run-snoc C M w₀ (i .run-of) d ∙ ap (λ (v : World S). step C M v d) (i .stands) ∙ e;
         answered = subst (Answered (cs ▸ c))
-            (ap (λ (r : Result). results C w₀ (i .run-of) ++ (r ∷ [])) (sym (ap (λ (v : World S). hands C v d) (i .stands) ∙ h))
-            ∙ sym (results-append C w₀ (i .run-of) (d ∷ [])))
+            (ap (λ (r : Result). results C M w₀ (i .run-of) ++ (r ∷ [])) (sym (ap (λ (v : World S). hands C M v d) (i .stands) ∙ h))
+            ∙ sym (results-append C M w₀ (i .run-of) (d ∷ [])))
             (result-is c (i .answered));
       }
   one-more {s₀} {s} {s′} {p₀} {p} {p′} {cs} c i (passed e n) =
       record { run-of = i .run-of; stands = i .stands ∙ sym e; answered = left-out c n (i .answered) }
   one-more {s₀} {s} {s′} {p₀} {p} {p′} {cs} c i (closed e h) =
-      let w₀ = begun C s₀ p₀ in
+      let w₀ = begun C M s₀ p₀ in
       let d = callOf c in
       record {
         run-of = i .run-of ++ (d ∷ []);
-        stands = run-snoc C w₀ (i .run-of) d ∙ ap (λ (v : World S). step C v d) (i .stands) ∙ e;
+        stands = run-snoc C M w₀ (i .run-of) d ∙ ap (λ (v : World S). step C M v d) (i .stands) ∙ e;
         answered = subst (Answered (cs ▸ c))
-            (ap (λ (v : World S). results C w₀ (i .run-of) ++ (hands C v d ∷ [])) (sym (i .stands))
-            ∙ sym (results-append C w₀ (i .run-of) (d ∷ [])))
-            (answer-is c (hands C (world s p cs) d) h (i .answered));
+            (ap (λ (v : World S). results C M w₀ (i .run-of) ++ (hands C M v d ∷ [])) (sym (i .stands))
+            ∙ sym (results-append C M w₀ (i .run-of) (d ∷ [])))
+            (answer-is c (hands C M (world s p cs) d) h (i .answered));
       }
 
   walk-is-run : {s₀ s : Session S} {p₀ p : List ℕ} {cs : Calls} → Walk s₀ p₀ cs s p → IsRun s₀ p₀ cs s p
@@ -455,11 +455,11 @@ module _ {S : Type 0} (C : Cipher S) where
 
   -- a trace is a run: of an opening, which is lent one buffer
   pub trace-is-run : {s₀ s : Session S} {p₀ p : List ℕ} {cs : Calls} → (s₀ .mark ≡ opening → s₀ .room ≡ length p₀)
-      → Trace C s₀ cs s → OneBuffer p₀ cs p → IsRun s₀ p₀ cs s p
+      → Trace C M s₀ cs s → OneBuffer p₀ cs p → IsRun s₀ p₀ cs s p
   trace-is-run r t b = walk-is-run (walk-one r t b)
 
   -- and of any other session, whatever buffers are lent
-  pub trace-is-run-any : {s₀ s : Session S} {cs : Calls} (p : List ℕ) → s₀ .mark ≢ opening → Trace C s₀ cs s → IsRun s₀ p cs s p
+  pub trace-is-run-any : {s₀ s : Session S} {cs : Calls} (p : List ℕ) → s₀ .mark ≢ opening → Trace C M s₀ cs s → IsRun s₀ p cs s p
   trace-is-run-any p n t = walk-is-run (walk-any p n t)
 
   -- ---- the last call of a trace
@@ -468,7 +468,7 @@ module _ {S : Type 0} (C : Cipher S) where
     pub session : Session S
     pub plain : List ℕ
     pub before : IsRun s₀ p₀ cs session plain
-    pub met : Met C session c s′
+    pub met : Met C M session c s′
     pub steps-to : Steps (world session plain cs) c (world s′ p′ (cs ▸ c))
 
   last : {s₀ s′ : Session S} {p₀ p′ : List ℕ} {cs : Calls} {c : Made} → Walk s₀ p₀ (cs ▸ c) s′ p′ → Last s₀ p₀ cs c s′ p′
@@ -476,21 +476,21 @@ module _ {S : Type 0} (C : Cipher S) where
       record { session = s; plain = p; before = walk-is-run t; met = m; steps-to = steps cs s s′ p p′ c m f }
 
   pub last-call : {s₀ s : Session S} {p₀ p : List ℕ} {cs : Calls} {c : Made} → (s₀ .mark ≡ opening → s₀ .room ≡ length p₀)
-      → Trace C s₀ (cs ▸ c) s → OneBuffer p₀ (cs ▸ c) p → Last s₀ p₀ cs c s p
+      → Trace C M s₀ (cs ▸ c) s → OneBuffer p₀ (cs ▸ c) p → Last s₀ p₀ cs c s p
   last-call r t b = last (walk-one r t b)
 
-  pub last-call-any : {s₀ s : Session S} {cs : Calls} {c : Made} (p : List ℕ) → s₀ .mark ≢ opening → Trace C s₀ (cs ▸ c) s → Last s₀ p cs c s p
+  pub last-call-any : {s₀ s : Session S} {cs : Calls} {c : Made} (p : List ℕ) → s₀ .mark ≢ opening → Trace C M s₀ (cs ▸ c) s → Last s₀ p cs c s p
   last-call-any p n t = last (walk-any p n t)
 
-  pub trace-before : {s₀ s′ : Session S} {cs : Calls} {c : Made} → Trace C s₀ (cs ▸ c) s′ → (s : Session S) × Trace C s₀ cs s × Met C s c s′
+  pub trace-before : {s₀ s′ : Session S} {cs : Calls} {c : Made} → Trace C M s₀ (cs ▸ c) s′ → (s : Session S) × Trace C M s₀ cs s × Met C M s c s′
   trace-before (made {s = s} t c m) = (s, t, m)
 
 pub buffer-before : {p₀ p′ : List ℕ} {cs : Calls} {c : Made} → OneBuffer p₀ (cs ▸ c) p′ → (p : List ℕ) × OneBuffer p₀ cs p × Keeps (length p₀) p c p′
 buffer-before (kept {p = p} b c k) = (p, b, k)
 
-module _ {S : Type 0} (C : Cipher S) where
+module _ {S : Type 0} (C : Cipher S) (M : Mac S) where
   -- the call behind a trace
   pub trace-steps : {s₀ : Session S} {cs : Calls} (p₀ : List ℕ) (s s′ : Session S) (p p′ : List ℕ) (c : Made) → (s₀ .mark ≡ opening → s₀ .room ≡ length p₀)
-      → Trace C s₀ cs s → Met C s c s′ → Keeps (length p₀) p c p′ → Steps C (world C s p cs) c (world C s′ p′ (cs ▸ c))
+      → Trace C M s₀ cs s → Met C M s c s′ → Keeps (length p₀) p c p′ → Steps C M (world C M s p cs) c (world C M s′ p′ (cs ▸ c))
   trace-steps {cs = cs} p₀ s s′ p p′ c r t m k =
-      steps C cs s s′ p p′ c m (fits-one C s (length p₀) p c p′ (λ e. let o = opener C t e in o .1 ∙ r (o .0)) k)
+      steps C M cs s s′ p p′ c m (fits-one C M s (length p₀) p c p′ (λ e. let o = opener C M t e in o .1 ∙ r (o .0)) k)

@@ -12,7 +12,7 @@ use lib.ListN.{length}
 use Rattle.machine.specs.Machine.{Machine}
 use Rattle.answers.specs.Answers as answers
 use Rattle.answers.proofs.Answers.{MacStartOk}
-use Rattle.promises.specs.Cipher.{Cipher}
+use Rattle.promises.specs.Cipher.{Cipher, Mac}
 use Rattle.promises.specs.OneShot.{Left, macTag, macOf, macCheckOf}
 use Rattle.promises.specs.Session.{macing, opening, Session, Handed, Wrote, live, ended, macStart}
 use Rattle.promises.specs.Session as session
@@ -26,12 +26,12 @@ use Rattle.promises.proofs.RunsMac.{MacLive, MacStands, mac-live-live, 
 use Rattle.promises.proofs.Runs.{Accepts}
 use Rattle.promises.proofs.Traces.{IsRun, world, going-goes, trace-is-run-any, trace-before}
 
-module _ {S : Type 0} (C : Cipher S) (key nonce : List ℕ) (n : ℕ) where
+module _ {S : Type 0} (C : Cipher S) (M : Mac S) (key nonce : List ℕ) (n : ℕ) where
   open Cipher C using (size, machine)
   open Machine machine using (rate)
 
   abbrev From : Calls → Type 0
-  From cs = MacSession C key nonce n cs
+  From cs = MacSession C M key nonce n cs
 
   start-mark : macStart C key nonce n .session .mark ≢ opening
   unfolding macStart ended session.started
@@ -48,64 +48,64 @@ module _ {S : Type 0} (C : Cipher S) (key nonce : List ℕ) (n : ℕ) where
   first-is : {cs : Calls} (t : From cs) → t .first ≡ macStart C key nonce n .session
   first-is t = ap (λ (r : Handed S). r .session) (t .start-met)
 
-  at-end : {cs : Calls} (t : From cs) → IsRun C (macStart C key nonce n .session) [] cs (t .last) []
-  at-end {cs} t = trace-is-run-any C [] start-mark (subst (λ (s : Session S). Trace C s cs (t .last)) (first-is t) (t .trace))
+  at-end : {cs : Calls} (t : From cs) → IsRun C M (macStart C key nonce n .session) [] cs (t .last) []
+  at-end {cs} t = trace-is-run-any C M [] start-mark (subst (λ (s : Session S). Trace C M s cs (t .last)) (first-is t) (t .trace))
 
   -- until a call has ended it, it is live
   module _ {cs : Calls} (t : From cs) (done : t .started ≡ 0) (going : Going cs) where
-    still-live : MacLive C key nonce n (world C (t .last) [] cs)
+    still-live : MacLive C M key nonce n (world C M (t .last) [] cs)
     unfolding ended macRun
-    still-live = go (subst (MacStands C key nonce n) (at-end t .stands) (mac-run-stands C key nonce n [] (at-end t .run-of)))
+    still-live = go (subst (MacStands C M key nonce n) (at-end t .stands) (mac-run-stands C M key nonce n [] (at-end t .run-of)))
       where
         mark : t .last .mark ≡ macing
         mark =
-            going-goes C (t .trace) going .0
+            going-goes C M (t .trace) going .0
             ∙ ap (λ (s : Session S). s .mark) (first-is t)
             ∙ start-done (sym (ap (λ (r : Handed S). r .answer) (t .start-met)) ∙ done)
 
-        go : MacLive C key nonce n (world C (t .last) [] cs) ⊎ (t .last ≡ ended C) → MacLive C key nonce n (world C (t .last) [] cs)
+        go : MacLive C M key nonce n (world C M (t .last) [] cs) ⊎ (t .last ≡ ended C) → MacLive C M key nonce n (world C M (t .last) [] cs)
         go (inl l) = l
         go (inr e) = absurd (omega (arith, sym mark ∙ ap (λ (s : Session S). s .mark) e))
 
     is-live : live rate macing (t .last) ≡ true
-    is-live = mac-live-live C key nonce n (world C (t .last) [] cs) still-live
+    is-live = mac-live-live C M key nonce n (world C M (t .last) [] cs) still-live
 
   abbrev before : {cs : Calls} {c : Made} (t : From (cs ▸ c)) → From cs
-  before t = let b = trace-before C (t .trace) in
+  before t = let b = trace-before C M (t .trace) in
       record { started = t .started; first = t .first; last = b .0; start-met = t .start-met; trace = b .1 }
 
   -- the finish of a live session with its own tag size, and the one-shot on the joined data
   module _ {cs : Calls} (tag : List ℕ) (a : ℕ) (tag′ : List ℕ) (t : From (cs ▸ macFinish tag a tag′)) where
     pub mac-session-finishes : t .started ≡ 0 → Going cs → length tag ≡ n
-        → (a ≡ 0) × (tag′ ≡ macTag C key nonce (taken cs) n)
-        × ((tagBuf : List ℕ) (r : ℕ) (tagBuf′ : List ℕ) → MacMet C key nonce (taken cs) tagBuf r tagBuf′ → length tagBuf ≡ n → (r ≡ a) × (tagBuf′ ≡ tag′))
+        → (a ≡ 0) × (tag′ ≡ macTag C M key nonce (taken cs) n)
+        × ((tagBuf : List ℕ) (r : ℕ) (tagBuf′ : List ℕ) → MacMet C M key nonce (taken cs) tagBuf r tagBuf′ → length tagBuf ≡ n → (r ≡ a) × (tagBuf′ ≡ tag′))
     unfolding macRun hands
     mac-session-finishes done going e =
         let i = at-end (before t) in
         let l = is-live (before t) done going in
-        let f : _≡_ {A = Result} (record { answer = a; count = 0; out = tag′ }) (record { answer = 0; count = 0; out = macTag C key nonce (taken cs) n }) =
-        ap (wrote C) (trace-before C (t .trace) .2)
-        ∙ subst (λ (w : World S). live rate macing (w .session) ≡ true → hands C w (call.macFinish tag) ≡ record { answer = 0; count = 0; out = macTag C key nonce (w .taken) n })
-        (i .stands) (λ m. mac.mac-run-finish C key nonce n [] (i .run-of) m tag e) l in
+        let f : _≡_ {A = Result} (record { answer = a; count = 0; out = tag′ }) (record { answer = 0; count = 0; out = macTag C M key nonce (taken cs) n }) =
+        ap (wrote C M) (trace-before C M (t .trace) .2)
+        ∙ subst (λ (w : World S). live rate macing (w .session) ≡ true → hands C M w (call.macFinish tag) ≡ record { answer = 0; count = 0; out = macTag C M key nonce (w .taken) n })
+        (i .stands) (λ m. mac.mac-run-finish C M key nonce n [] (i .run-of) m tag e) l in
         let zero = ap (λ (r : Result). r .answer) f in
         let tag-is = ap (λ (r : Result). r .out) f in (
           zero,
           tag-is,
           λ tagBuf r tagBuf′ m size.
               let shot = m ∙ subst (λ (w : World S). live rate macing (w .session) ≡ true
-              → macOf C key nonce (w .taken) tagBuf ≡ record { answer = 0; out = macTag C key nonce (w .taken) n })
-              (i .stands) (λ k. mac.mac-run-one-shot C key nonce n [] (i .run-of) k tagBuf size
-              ∙ ap (λ (r : Result). record { answer = 0; out = r .out }) (mac.mac-run-finish C key nonce n [] (i .run-of) k tagBuf size)) l in
+              → macOf C M key nonce (w .taken) tagBuf ≡ record { answer = 0; out = macTag C M key nonce (w .taken) n })
+              (i .stands) (λ k. mac.mac-run-one-shot C M key nonce n [] (i .run-of) k tagBuf size
+              ∙ ap (λ (r : Result). record { answer = 0; out = r .out }) (mac.mac-run-finish C M key nonce n [] (i .run-of) k tagBuf size)) l in
               (ap (λ (x : Left). x .answer) shot ∙ sym zero, ap (λ (x : Left). x .out) shot ∙ sym tag-is),
         )
 
   -- and its check
   module _ {cs : Calls} (tag : List ℕ) (a : ℕ) (t : From (cs ▸ macFinishCheck tag a)) where
-    pub mac-session-checks : t .started ≡ 0 → Going cs → length tag ≡ n → (r : ℕ) → MacCheckMet C key nonce (taken cs) tag r → a ≡ r
+    pub mac-session-checks : t .started ≡ 0 → Going cs → length tag ≡ n → (r : ℕ) → MacCheckMet C M key nonce (taken cs) tag r → a ≡ r
     unfolding macRun hands
     mac-session-checks done going e r m =
         let i = at-end (before t) in
-        ap (λ (x : Handed S). x .answer) (trace-before C (t .trace) .2)
-        ∙ subst (λ (w : World S). live rate macing (w .session) ≡ true → hands C w (call.macFinishCheck tag) .answer ≡ macCheckOf C key nonce (w .taken) tag)
-        (i .stands) (λ l. mac.mac-run-check-one-shot C key nonce n [] (i .run-of) l tag e) (is-live (before t) done going)
+        ap (λ (x : Handed S). x .answer) (trace-before C M (t .trace) .2)
+        ∙ subst (λ (w : World S). live rate macing (w .session) ≡ true → hands C M w (call.macFinishCheck tag) .answer ≡ macCheckOf C M key nonce (w .taken) tag)
+        (i .stands) (λ l. mac.mac-run-check-one-shot C M key nonce n [] (i .run-of) l tag e) (is-live (before t) done going)
         ∙ sym m

@@ -14,7 +14,7 @@ use Rattle.machine.specs.Bytes.{zeros}
 use Rattle.machine.specs.Machine.{Machine}
 use Rattle.answers.specs.Answers as answers
 use Rattle.answers.proofs.Answers.{StartOk, start-ok, ok-start, open-finish-ok}
-use Rattle.promises.specs.Cipher.{Cipher}
+use Rattle.promises.specs.Cipher.{Cipher, Mac}
 use Rattle.promises.specs.OneShot.{Left, onto, ciphertext, plaintext, sealTag, openOf}
 use Rattle.promises.specs.Session.{opening, Session, Handed, Wrote, Opened, live, ended, erased, openStart}
 use Rattle.promises.specs.Session as session
@@ -37,12 +37,12 @@ use Rattle.promises.proofs.RunsErasing as erasing
 use Rattle.promises.proofs.Traces.{IsRun, Last, Steps, as-run, passed, closed, steps-as-run, callOf, world, goes, going-goes, opener}
 use Rattle.promises.proofs.Traces.{openPiece-lent, openFinish-lent, trace-is-run, last-call, trace-before, buffer-before}
 
-module _ {S : Type 0} (C : Cipher S) (key nonce ad : List ℕ) (n : ℕ) (p₀ : List ℕ) where
+module _ {S : Type 0} (C : Cipher S) (M : Mac S) (key nonce ad : List ℕ) (n : ℕ) (p₀ : List ℕ) where
   open Cipher C using (size, machine)
   open Machine machine using (rate)
 
   abbrev From : Calls → List ℕ → Type 0
-  From cs p = OpenSession C key nonce ad n p₀ cs p
+  From cs p = OpenSession C M key nonce ad n p₀ cs p
 
   abbrev pub start : Handed S
   start = openStart C key nonce ad n (length p₀)
@@ -75,31 +75,31 @@ module _ {S : Type 0} (C : Cipher S) (key nonce ad : List ℕ) (n : ℕ) (p₀ :
   first-is : {cs : Calls} {p : List ℕ} (t : From cs p) → t .first ≡ start .session
   first-is t = ap (λ (r : Handed S). r .session) (t .start-met)
 
-  pub from-start : {cs : Calls} {p : List ℕ} (t : From cs p) → Trace C (start .session) cs (t .last)
-  from-start {cs} t = subst (λ (s : Session S). Trace C s cs (t .last)) (first-is t) (t .trace)
+  pub from-start : {cs : Calls} {p : List ℕ} (t : From cs p) → Trace C M (start .session) cs (t .last)
+  from-start {cs} t = subst (λ (s : Session S). Trace C M s cs (t .last)) (first-is t) (t .trace)
 
   -- ---- the run
 
-  pub at-end : {cs : Calls} {p : List ℕ} (t : From cs p) → IsRun C (start .session) p₀ cs (t .last) p
-  at-end t = trace-is-run C start-room (from-start t) (t .buffer)
+  pub at-end : {cs : Calls} {p : List ℕ} (t : From cs p) → IsRun C M (start .session) p₀ cs (t .last) p
+  at-end t = trace-is-run C M start-room (from-start t) (t .buffer)
 
-  at-last : {cs : Calls} {c : Made} {p : List ℕ} (t : From (cs ▸ c) p) → Last C (start .session) p₀ cs c (t .last) p
-  at-last t = last-call C start-room (from-start t) (t .buffer)
+  at-last : {cs : Calls} {c : Made} {p : List ℕ} (t : From (cs ▸ c) p) → Last C M (start .session) p₀ cs c (t .last) p
+  at-last t = last-call C M start-room (from-start t) (t .buffer)
 
-  pub run-is : {cs : Calls} {s : Session S} {p : List ℕ} (i : IsRun C (start .session) p₀ cs s p) → openRun C key nonce ad n p₀ (i .run-of) ≡ world C s p cs
+  pub run-is : {cs : Calls} {s : Session S} {p : List ℕ} (i : IsRun C M (start .session) p₀ cs s p) → openRun C M key nonce ad n p₀ (i .run-of) ≡ world C M s p cs
   unfolding openRun
   run-is i = i .stands
 
   -- a session of the opening kind is live, and holds what was taken
-  lives : {cs : Calls} {s : Session S} {p : List ℕ} (i : IsRun C (start .session) p₀ cs s p) → s .mark ≡ opening → OpenLive C key nonce ad n p₀ (world C s p cs)
+  lives : {cs : Calls} {s : Session S} {p : List ℕ} (i : IsRun C M (start .session) p₀ cs s p) → s .mark ≡ opening → OpenLive C M key nonce ad n p₀ (world C M s p cs)
   unfolding ended
   lives {cs} {s} {p} i o =
-      go (subst (OpenStands C key nonce ad n p₀ (i .run-of)) (run-is i) (open-run-stands C key nonce ad n p₀ (i .run-of)))
+      go (subst (OpenStands C M key nonce ad n p₀ (i .run-of)) (run-is i) (open-run-stands C M key nonce ad n p₀ (i .run-of)))
     where
       over : s ≡ ended C → ⊥
       over e = omega (arith, sym o ∙ ap (λ (t : Session S). t .mark) e)
 
-      go : OpenStands C key nonce ad n p₀ (i .run-of) (world C s p cs) → OpenLive C key nonce ad n p₀ (world C s p cs)
+      go : OpenStands C M key nonce ad n p₀ (i .run-of) (world C M s p cs) → OpenLive C M key nonce ad n p₀ (world C M s p cs)
       go (going l) = l
       go (released e r q) = absurd (over e)
       go (erased-all e q) = absurd (over e)
@@ -107,7 +107,7 @@ module _ {S : Type 0} (C : Cipher S) (key nonce ad : List ℕ) (n : ℕ) (p₀ :
   -- until a call has ended it, it is of that kind
   still-opening : {cs : Calls} {p : List ℕ} (t : From cs p) → t .started ≡ 0 → Going cs → t .last .mark ≡ opening
   still-opening t done g =
-      going-goes C (t .trace) g .0
+      going-goes C M (t .trace) g .0
       ∙ ap (λ (s : Session S). s .mark) (first-is t)
       ∙ start-done (sym (ap (λ (r : Handed S). r .answer) (t .start-met)) ∙ done)
 
@@ -118,7 +118,7 @@ module _ {S : Type 0} (C : Cipher S) (key nonce ad : List ℕ) (n : ℕ) (p₀ :
     pub in-room : length xs ≤ length p₀
     pub buffer-is : buf ≡ onto (plaintext C key nonce ad xs) p₀
 
-  holds : (cs : Calls) (s : Session S) (p : List ℕ) → OpenLive C key nonce ad n p₀ (world C s p cs) → Holds (taken cs) p
+  holds : (cs : Calls) (s : Session S) (p : List ℕ) → OpenLive C M key nonce ad n p₀ (world C M s p cs) → Holds (taken cs) p
   holds cs s p l = record { within = l .within; in-room = l .written .in-room; buffer-is = l .written .plain-is }
 
   -- at any time until a call ends the session
@@ -129,10 +129,10 @@ module _ {S : Type 0} (C : Cipher S) (key nonce ad : List ℕ) (n : ℕ) (p₀ :
   module _ {cs : Calls} (ct b : List ℕ) (a : ℕ) (b′ : List ℕ) {p : List ℕ} (t : From (cs ▸ openPiece ct b a b′) p) where
     pub open-session-piece-holds : a ≡ 0 → (b′ ≡ p) × Holds (taken cs ++ ct) b′
     open-session-piece-holds z =
-        let m = trace-before C (t .trace) in
-        let lent = openPiece-lent C (m .0) ct b (inl (sym (ap (λ (r : Wrote S). r .answer) (m .2)) ∙ z)) in
-        let mark : t .last .mark ≡ opening = goes C (m .0) (t .last) (openPiece ct b a b′) (m .2) (λ e. e) .0 ∙ lent .0 in
-        let first = opener C (m .1) (lent .0) in
+        let m = trace-before C M (t .trace) in
+        let lent = openPiece-lent C M (m .0) ct b (inl (sym (ap (λ (r : Wrote S). r .answer) (m .2)) ∙ z)) in
+        let mark : t .last .mark ≡ opening = goes C M (m .0) (t .last) (openPiece ct b a b′) (m .2) (λ e. e) .0 ∙ lent .0 in
+        let first = opener C M (m .1) (lent .0) in
         let room : length b ≡ length p₀ =
         lent .1 ∙ first .1 ∙ ap (λ (s : Session S). s .room) (first-is t) ∙ start-room (sym (ap (λ (s : Session S). s .mark) (first-is t)) ∙ first .0) in
         let same : b′ ≡ p = one room (buffer-before (t .buffer) .2) in
@@ -147,7 +147,7 @@ module _ {S : Type 0} (C : Cipher S) (key nonce ad : List ℕ) (n : ℕ) (p₀ :
 
   abbrev pub before : {cs : Calls} {c : Made} {p : List ℕ} (t : From (cs ▸ c) p) → From cs (buffer-before (t .buffer) .0)
   before t =
-      let m = trace-before C (t .trace) in
+      let m = trace-before C M (t .trace) in
       record { started = t .started; first = t .first; last = m .0; start-met = t .start-met; trace = m .1; buffer = buffer-before (t .buffer) .1 }
 
   lent-one : (q b b′ p : List ℕ) → length b ≡ length p₀ → Lent (length p₀) q b b′ p → (b ≡ q) × (p ≡ b′)
@@ -161,13 +161,13 @@ module _ {S : Type 0} (C : Cipher S) (key nonce ad : List ℕ) (n : ℕ) (p₀ :
     unfolding hands
     open-session-piece done g e room fits =
         let i = at-end (before t) in
-        let l = open-live-live C key nonce ad n p₀ (world C (before t .last) (buffer-before (t .buffer) .0) cs) (lives i (still-opening (before t) done g)) in
+        let l = open-live-live C M key nonce ad n p₀ (world C M (before t .last) (buffer-before (t .buffer) .0) cs) (lives i (still-opening (before t) done g)) in
         let lent = lent-one (buffer-before (t .buffer) .0) b b′ p e (buffer-before (t .buffer) .2) in
-        ap (λ (r : Wrote S). r .answer) (trace-before C (t .trace) .2)
+        ap (λ (r : Wrote S). r .answer) (trace-before C M (t .trace) .2)
         ∙ ap (λ (q : List ℕ). session.openPiece C (before t .last) ct q .answer) (lent .0)
         ∙ subst (λ (w : World S). live rate opening (w .session) ≡ true → length (w .taken) + length ct ≤ length p₀ → length (w .taken) + length ct ≤ answers.limit
-        → hands C w (call.openPiece ct) .answer ≡ 0) (run-is i)
-        (λ m r f. open-run-piece C key nonce ad n p₀ (i .run-of) m ct r f .answers) l room fits
+        → hands C M w (call.openPiece ct) .answer ≡ 0) (run-is i)
+        (λ m r f. open-run-piece C M key nonce ad n p₀ (i .run-of) m ct r f .answers) l room fits
 
   module _ {cs : Calls} (tag b : List ℕ) (a k : ℕ) (b′ : List ℕ) {p : List ℕ} (t : From (cs ▸ openFinish tag b a k b′) p) where
     abbrev s : Session S
@@ -176,34 +176,34 @@ module _ {S : Type 0} (C : Cipher S) (key nonce ad : List ℕ) (n : ℕ) (p₀ :
     abbrev q : List ℕ
     q = buffer-before (t .buffer) .0
 
-    met : Met C s (openFinish tag b a k b′) (t .last)
-    met = trace-before C (t .trace) .2
+    met : Met C M s (openFinish tag b a k b′) (t .last)
+    met = trace-before C M (t .trace) .2
 
     -- an answer of 0 or 7 says that the session was live, and lent its own buffer
     was-opening : Ends a → (s .mark ≡ opening) × (length b ≡ length p₀)
     was-opening z =
-        let lent = openFinish-lent C s tag b (subst Ends (ap (λ (r : Opened S). r .answer) met) z) in
-        let first = opener C (trace-before C (t .trace) .1) (lent .0) in (
+        let lent = openFinish-lent C M s tag b (subst Ends (ap (λ (r : Opened S). r .answer) met) z) in
+        let first = opener C M (trace-before C M (t .trace) .1) (lent .0) in (
           lent .0,
           lent .1 ∙ first .1 ∙ ap (λ (r : Session S). r .room) (first-is t)
               ∙ start-room (sym (ap (λ (r : Session S). r .mark) (first-is t)) ∙ first .0),
         )
 
     module _ (o : s .mark ≡ opening) (e : length b ≡ length p₀) where
-      held : OpenLive C key nonce ad n p₀ (world C s q cs)
+      held : OpenLive C M key nonce ad n p₀ (world C M s q cs)
       held = lives (at-end (before t)) o
 
       is-live : live rate opening s ≡ true
-      is-live = open-live-live C key nonce ad n p₀ (world C s q cs) held
+      is-live = open-live-live C M key nonce ad n p₀ (world C M s q cs) held
 
       its-own : (b ≡ q) × (p ≡ b′)
       its-own = lent-one q b b′ p e (buffer-before (t .buffer) .2)
 
-      handed : _≡_ {A = Result} (record { answer = a; count = k; out = b′ }) (hands C (world C s q cs) (call.openFinish tag))
+      handed : _≡_ {A = Result} (record { answer = a; count = k; out = b′ }) (hands C M (world C M s q cs) (call.openFinish tag))
       unfolding hands
-      handed = ap (counted C) (met ∙ ap (session.openFinish C s tag) (its-own .0))
+      handed = ap (counted C M) (met ∙ ap (session.openFinish C s tag) (its-own .0))
 
-      at-run : (P : World S → Type 0) → ((ds : List Call) → P (openRun C key nonce ad n p₀ ds)) → P (world C s q cs)
+      at-run : (P : World S → Type 0) → ((ds : List Call) → P (openRun C M key nonce ad n p₀ ds)) → P (world C M s q cs)
       at-run P h = subst P (run-is (at-end (before t))) (h (at-end (before t) .run-of))
 
       -- it answers as the one-shot does on all that was taken
@@ -211,28 +211,28 @@ module _ {S : Type 0} (C : Cipher S) (key nonce ad : List ℕ) (n : ℕ) (p₀ :
       as-one-shot size-is buf room =
           ap (λ (r : Result). r .answer) handed
           ∙ at-run (λ (w : World S). live rate opening (w .session) ≡ true → length (w .taken) ≤ length buf
-          → hands C w (call.openFinish tag) .answer ≡ openOf C key nonce ad (w .taken) tag buf .answer)
-          (λ ds l r. verdict.open-run-same-answer C key nonce ad n p₀ ds l tag size-is buf r) is-live room
+          → hands C M w (call.openFinish tag) .answer ≡ openOf C key nonce ad (w .taken) tag buf .answer)
+          (λ ds l r. verdict.open-run-same-answer C M key nonce ad n p₀ ds l tag size-is buf r) is-live room
 
       accepts : (a ≡ 0) ↔ ((msg : List ℕ) × (taken cs ≡ ciphertext C key nonce ad msg) × (tag ≡ sealTag C key nonce ad msg n))
       accepts =
           let answered = ap (λ (r : Result). r .answer) handed in
-          let both = at-run (λ (w : World S). live rate opening (w .session) ≡ true → (hands C w (call.openFinish tag) .answer ≡ 0)
+          let both = at-run (λ (w : World S). live rate opening (w .session) ≡ true → (hands C M w (call.openFinish tag) .answer ≡ 0)
           ↔ ((msg : List ℕ) × (w .taken ≡ ciphertext C key nonce ad msg) × (tag ≡ sealTag C key nonce ad msg n)))
-          (λ ds l. verdict.open-run-accepts C key nonce ad n p₀ ds l tag) is-live in
+          (λ ds l. verdict.open-run-accepts C M key nonce ad n p₀ ds l tag) is-live in
           ((λ z. both .0 (sym answered ∙ z)), λ m. answered ∙ both .1 m)
 
       yields : (msg : List ℕ) → taken cs ≡ ciphertext C key nonce ad msg → take (length (taken cs)) q ≡ msg
       yields =
           at-run (λ (w : World S). live rate opening (w .session) ≡ true → (msg : List ℕ) → w .taken ≡ ciphertext C key nonce ad msg → take (length (w .taken)) (w .plain) ≡ msg)
-          (λ ds l. verdict.open-run-yields C key nonce ad n p₀ ds l) is-live
+          (λ ds l. verdict.open-run-yields C M key nonce ad n p₀ ds l) is-live
 
       releases : a ≡ 0 → _≡_ {A = Result} (record { answer = a; count = k; out = b′ }) (record { answer = 0; count = length (taken cs); out = q })
       releases z =
           handed
-          ∙ at-run (λ (w : World S). live rate opening (w .session) ≡ true → hands C w (call.openFinish tag) .answer ≡ 0
-          → hands C w (call.openFinish tag) ≡ record { answer = 0; count = length (w .taken); out = w .plain })
-          (λ ds l. verdict.open-run-released C key nonce ad n p₀ ds l tag) is-live (sym (ap (λ (r : Result). r .answer) handed) ∙ z)
+          ∙ at-run (λ (w : World S). live rate opening (w .session) ≡ true → hands C M w (call.openFinish tag) .answer ≡ 0
+          → hands C M w (call.openFinish tag) ≡ record { answer = 0; count = length (w .taken); out = w .plain })
+          (λ ds l. verdict.open-run-released C M key nonce ad n p₀ ds l tag) is-live (sym (ap (λ (r : Result). r .answer) handed) ∙ z)
 
     -- ---- accepted exactly if sealed, and then the message is released
 

@@ -12,7 +12,7 @@ use lib.ListN.{length, take}
 use Rattle.machine.specs.Machine.{Machine}
 use Rattle.answers.specs.Answers as answers
 use Rattle.answers.proofs.Answers.{StartOk, start-ok, ok-start, finish-ok}
-use Rattle.promises.specs.Cipher.{Cipher}
+use Rattle.promises.specs.Cipher.{Cipher, Mac}
 use Rattle.promises.specs.OneShot.{SealLeft, ciphertext, sealTag}
 use Rattle.promises.specs.Session.{sealing, opening, Session, Handed, Wrote, live, ended, sealStart}
 use Rattle.promises.specs.Session as session
@@ -32,12 +32,12 @@ use Rattle.promises.proofs.RunsSealing.{SealLive, SealStands, seal-live
 use Rattle.promises.proofs.Runs.{Accepts}
 use Rattle.promises.proofs.Traces.{IsRun, world, going-goes, trace-is-run-any, trace-before}
 
-module _ {S : Type 0} (C : Cipher S) (key nonce ad : List ℕ) (n : ℕ) where
+module _ {S : Type 0} (C : Cipher S) (M : Mac S) (key nonce ad : List ℕ) (n : ℕ) where
   open Cipher C using (size, machine)
   open Machine machine using (rate)
 
   abbrev From : Calls → Type 0
-  From cs = SealSession C key nonce ad n cs
+  From cs = SealSession C M key nonce ad n cs
 
   -- ---- the start
 
@@ -68,14 +68,14 @@ module _ {S : Type 0} (C : Cipher S) (key nonce ad : List ℕ) (n : ℕ) where
 
   -- ---- the run
 
-  at-end : {cs : Calls} (t : From cs) → IsRun C (sealStart C key nonce ad n .session) [] cs (t .last) []
+  at-end : {cs : Calls} (t : From cs) → IsRun C M (sealStart C key nonce ad n .session) [] cs (t .last) []
   at-end {cs} t =
-      trace-is-run-any C [] start-mark (subst (λ (s : Session S). Trace C s cs (t .last)) (first-is t) (t .trace))
+      trace-is-run-any C M [] start-mark (subst (λ (s : Session S). Trace C M s cs (t .last)) (first-is t) (t .trace))
 
-  pub seal-session-stands : {cs : Calls} (t : From cs) → SealStands C key nonce ad n (world C (t .last) [] cs)
+  pub seal-session-stands : {cs : Calls} (t : From cs) → SealStands C M key nonce ad n (world C M (t .last) [] cs)
   unfolding sealRun
   seal-session-stands {cs} t =
-      subst (SealStands C key nonce ad n) (at-end t .stands) (seal-run-stands C key nonce ad n [] (at-end t .run-of))
+      subst (SealStands C M key nonce ad n) (at-end t .stands) (seal-run-stands C M key nonce ad n [] (at-end t .run-of))
 
   -- ---- whatever was called: what was given is the ciphertext of what was taken
 
@@ -83,38 +83,38 @@ module _ {S : Type 0} (C : Cipher S) (key nonce ad : List ℕ) (n : ℕ) where
   seal-session-given t = seal-session-stands t .given-is
 
   -- a live one holds what was taken
-  lives : {cs : Calls} (t : From cs) → live rate sealing (t .last) ≡ true → SealLive C key nonce ad n (world C (t .last) [] cs)
+  lives : {cs : Calls} (t : From cs) → live rate sealing (t .last) ≡ true → SealLive C M key nonce ad n (world C M (t .last) [] cs)
   lives {cs} t l = go (seal-session-stands t .live-or-over)
     where
-      go : SealLive C key nonce ad n (world C (t .last) [] cs) ⊎ (t .last ≡ ended C) → SealLive C key nonce ad n (world C (t .last) [] cs)
+      go : SealLive C M key nonce ad n (world C M (t .last) [] cs) ⊎ (t .last ≡ ended C) → SealLive C M key nonce ad n (world C M (t .last) [] cs)
       go (inl k) = k
       go (inr e) = absurd (true≢false (sym l ∙ ap (live rate sealing) e ∙ ended-not-live C sealing))
 
   -- ---- until a call has ended it, it is live
 
   module _ {cs : Calls} (t : From cs) (done : t .started ≡ 0) (going : Going cs) where
-    still-live : SealLive C key nonce ad n (world C (t .last) [] cs)
+    still-live : SealLive C M key nonce ad n (world C M (t .last) [] cs)
     unfolding ended
     still-live = go (seal-session-stands t .live-or-over)
       where
         mark : t .last .mark ≡ sealing
         mark =
-            going-goes C (t .trace) going .0
+            going-goes C M (t .trace) going .0
             ∙ ap (λ (s : Session S). s .mark) (first-is t)
             ∙ start-done (sym (ap (λ (r : Handed S). r .answer) (t .start-met)) ∙ done) .0
 
-        go : SealLive C key nonce ad n (world C (t .last) [] cs) ⊎ (t .last ≡ ended C) → SealLive C key nonce ad n (world C (t .last) [] cs)
+        go : SealLive C M key nonce ad n (world C M (t .last) [] cs) ⊎ (t .last ≡ ended C) → SealLive C M key nonce ad n (world C M (t .last) [] cs)
         go (inl l) = l
         go (inr e) = absurd (omega (arith, sym mark ∙ ap (λ (s : Session S). s .mark) e))
 
     pub seal-session-live : live rate sealing (t .last) ≡ true
-    seal-session-live = seal-live-live C key nonce ad n (world C (t .last) [] cs) still-live
+    seal-session-live = seal-live-live C M key nonce ad n (world C M (t .last) [] cs) still-live
 
     pub seal-session-within : length (taken cs) ≤ answers.limit
     seal-session-within = still-live .within
 
   abbrev before : {cs : Calls} {c : Made} (t : From (cs ▸ c)) → From cs
-  before t = let b = trace-before C (t .trace) in
+  before t = let b = trace-before C M (t .trace) in
       record { started = t .started; first = t .first; last = b .0; start-met = t .start-met; trace = b .1 }
 
   -- ---- a piece within the limit is accepted
@@ -125,9 +125,9 @@ module _ {S : Type 0} (C : Cipher S) (key nonce ad : List ℕ) (n : ℕ) where
     unfolding sealRun hands
     seal-session-piece e =
         let i = at-end (before t) in
-        ap (λ (r : Wrote S). r .answer) (trace-before C (t .trace) .2)
-        ∙ subst (λ (w : World S). live rate sealing (w .session) ≡ true → length (w .taken) + length msg ≤ answers.limit → hands C w (call.sealPiece msg out) .answer ≡ 0) (i .stands)
-        (λ l f. seal-run-piece C key nonce ad n [] (i .run-of) l msg f out e .answers) (seal-session-live (before t) done going) fits
+        ap (λ (r : Wrote S). r .answer) (trace-before C M (t .trace) .2)
+        ∙ subst (λ (w : World S). live rate sealing (w .session) ≡ true → length (w .taken) + length msg ≤ answers.limit → hands C M w (call.sealPiece msg out) .answer ≡ 0) (i .stands)
+        (λ l f. seal-run-piece C M key nonce ad n [] (i .run-of) l msg f out e .answers) (seal-session-live (before t) done going) fits
 
   module _ {cs : Calls} (buf : List ℕ) (a : ℕ) (buf′ : List ℕ) (t : From (cs ▸ sealPieceInPlace buf a buf′)) (done : t .started ≡ 0) (going : Going cs)
       (fits : length (taken cs) + length buf ≤ answers.limit) where
@@ -135,9 +135,9 @@ module _ {S : Type 0} (C : Cipher S) (key nonce ad : List ℕ) (n : ℕ) where
     unfolding sealRun hands
     seal-session-piece-in-place =
         let i = at-end (before t) in
-        ap (λ (r : Wrote S). r .answer) (trace-before C (t .trace) .2)
-        ∙ subst (λ (w : World S). live rate sealing (w .session) ≡ true → length (w .taken) + length buf ≤ answers.limit → hands C w (call.sealPieceInPlace buf) .answer ≡ 0) (i .stands)
-        (λ l f. seal-run-piece-in-place C key nonce ad n [] (i .run-of) l buf f .answers) (seal-session-live (before t) done going) fits
+        ap (λ (r : Wrote S). r .answer) (trace-before C M (t .trace) .2)
+        ∙ subst (λ (w : World S). live rate sealing (w .session) ≡ true → length (w .taken) + length buf ≤ answers.limit → hands C M w (call.sealPieceInPlace buf) .answer ≡ 0) (i .stands)
+        (λ l f. seal-run-piece-in-place C M key nonce ad n [] (i .run-of) l buf f .answers) (seal-session-live (before t) done going) fits
 
   -- ---- the finish
 
@@ -145,17 +145,17 @@ module _ {S : Type 0} (C : Cipher S) (key nonce ad : List ℕ) (n : ℕ) where
     abbrev s : Session S
     s = before t .last
 
-    met : Met C s (sealFinish tag a tag′) (t .last)
-    met = trace-before C (t .trace) .2
+    met : Met C M s (sealFinish tag a tag′) (t .last)
+    met = trace-before C M (t .trace) .2
 
     finishes : live rate sealing s ≡ true → length tag ≡ n
         → _≡_ {A = Result} (record { answer = a; count = 0; out = tag′ }) (record { answer = 0; count = 0; out = sealTag C key nonce ad (taken cs) n })
     unfolding sealRun hands
     finishes l e =
         let i = at-end (before t) in
-        ap (wrote C) met
-        ∙ subst (λ (w : World S). live rate sealing (w .session) ≡ true → hands C w (call.sealFinish tag) ≡ record { answer = 0; count = 0; out = sealTag C key nonce ad (w .taken) n })
-        (i .stands) (λ m. seal-run-finish C key nonce ad n [] (i .run-of) m tag e) l
+        ap (wrote C M) met
+        ∙ subst (λ (w : World S). live rate sealing (w .session) ≡ true → hands C M w (call.sealFinish tag) ≡ record { answer = 0; count = 0; out = sealTag C key nonce ad (w .taken) n })
+        (i .stands) (λ m. seal-run-finish C M key nonce ad n [] (i .run-of) m tag e) l
 
     -- answered 0, it had a live session and a tag buffer of its size
     was-live : a ≡ 0 → (live rate sealing s ≡ true) × (length tag ≡ s .tagSize)

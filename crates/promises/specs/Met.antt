@@ -4,7 +4,7 @@
 use Prim.Native.Nat.{ℕ}
 use mathlib.Core.Path.{_≡_}
 use mathlib.Core.List.{List}
-use Rattle.promises.specs.Cipher.{Cipher}
+use Rattle.promises.specs.Cipher.{Cipher, Mac}
 use Rattle.promises.specs.OneShot.{SealLeft, Left, sealOf, sealInPlaceOf, openOf, openInPlaceOf, streamOf, streamXorOf, macOf, macCheckOf}
 use Rattle.promises.specs.Session.{Session, Handed, Wrote, Opened}
 use Rattle.promises.specs.Session as session
@@ -33,12 +33,6 @@ module _ {S : Type 0} (C : Cipher S) where
 
   abbrev pub StreamXorMet : (key nonce buf : List ℕ) (answer : ℕ) (buf′ : List ℕ) → Type 0
   StreamXorMet key nonce buf answer buf′ = _≡_ {A = Left} (record { answer = answer; out = buf′ }) (streamXorOf C key nonce buf)
-
-  abbrev pub MacMet : (key nonce data′ tag : List ℕ) (answer : ℕ) (tag′ : List ℕ) → Type 0
-  MacMet key nonce data′ tag answer tag′ = _≡_ {A = Left} (record { answer = answer; out = tag′ }) (macOf C key nonce data′ tag)
-
-  abbrev pub MacCheckMet : (key nonce data′ tag : List ℕ) (answer : ℕ) → Type 0
-  MacCheckMet key nonce data′ tag answer = answer ≡ macCheckOf C key nonce data′ tag
 
   -- ---- the starts
 
@@ -79,14 +73,23 @@ module _ {S : Type 0} (C : Cipher S) where
   OpenFinishMet s tag plain answer count s′ plain′ =
       _≡_ {A = Opened S} (record { answer = answer; count = count; session = s′; out = plain′ }) (session.openFinish C s tag plain)
 
-  abbrev pub MacFinishMet : Session S → (tag : List ℕ) (answer : ℕ) → Session S → (tag′ : List ℕ) → Type 0
-  MacFinishMet s tag answer s′ tag′ =
-      _≡_ {A = Wrote S} (record { answer = answer; session = s′; out = tag′ }) (session.macFinish C s tag)
-
-  abbrev pub MacFinishCheckMet : Session S → (tag : List ℕ) (answer : ℕ) → Session S → Type 0
-  MacFinishCheckMet s tag answer s′ =
-      _≡_ {A = Handed S} (record { answer = answer; session = s′ }) (session.macFinishCheck C s tag)
-
   abbrev pub AbortMet : Session S → (plain : List ℕ) (answer : ℕ) → Session S → (plain′ : List ℕ) → Type 0
   AbortMet s plain answer s′ plain′ =
       _≡_ {A = Wrote S} (record { answer = answer; session = s′; out = plain′ }) (session.abort C s plain)
+
+-- ---- the MAC: its one-shots, and the finishes of its sessions
+
+module _ {S : Type 0} (C : Cipher S) (M : Mac S) where
+  abbrev pub MacMet : (key nonce data′ tag : List ℕ) (answer : ℕ) (tag′ : List ℕ) → Type 0
+  MacMet key nonce data′ tag answer tag′ = _≡_ {A = Left} (record { answer = answer; out = tag′ }) (macOf C M key nonce data′ tag)
+
+  abbrev pub MacCheckMet : (key nonce data′ tag : List ℕ) (answer : ℕ) → Type 0
+  MacCheckMet key nonce data′ tag answer = answer ≡ macCheckOf C M key nonce data′ tag
+
+  abbrev pub MacFinishMet : Session S → (tag : List ℕ) (answer : ℕ) → Session S → (tag′ : List ℕ) → Type 0
+  MacFinishMet s tag answer s′ tag′ =
+      _≡_ {A = Wrote S} (record { answer = answer; session = s′; out = tag′ }) (session.macFinish C M s tag)
+
+  abbrev pub MacFinishCheckMet : Session S → (tag : List ℕ) (answer : ℕ) → Session S → Type 0
+  MacFinishCheckMet s tag answer s′ =
+      _≡_ {A = Handed S} (record { answer = answer; session = s′ }) (session.macFinishCheck C M s tag)

@@ -6,7 +6,7 @@ use mathlib.Core.Path.{_≡_}
 use mathlib.Core.Logic.{_⊎_, _≢_}
 use mathlib.Core.List.{List, [], _++_}
 use lib.ListN.{length}
-use Rattle.promises.specs.Cipher.{Cipher}
+use Rattle.promises.specs.Cipher.{Cipher, Mac}
 use Rattle.promises.specs.OneShot.{onDone}
 use Rattle.promises.specs.Session.{Session}
 use Rattle.promises.specs.Met.{SealStartMet, OpenStartMet, MacStartMet}
@@ -149,7 +149,7 @@ pub data OneBuffer (p₀ : List ℕ) : Calls → List ℕ → Type 0 where
   at-first : OneBuffer p₀ none p₀
   kept : {cs : Calls} {p p′ : List ℕ} → OneBuffer p₀ cs p → (c : Made) → Keeps (length p₀) p c p′ → OneBuffer p₀ (cs ▸ c) p′
 
-module _ {S : Type 0} (C : Cipher S) where
+module _ {S : Type 0} (C : Cipher S) (M : Mac S) where
   -- ---- the contract of a call that was made on the session s, and left s′
 
   abbrev pub Met : Session S → Made → Session S → Type 0
@@ -159,8 +159,8 @@ module _ {S : Type 0} (C : Cipher S) where
   Met s (macPiece data′ a) s′ = MacPieceMet C s data′ a s′
   Met s (sealFinish tag a tag′) s′ = SealFinishMet C s tag a s′ tag′
   Met s (openFinish tag plain a n plain′) s′ = OpenFinishMet C s tag plain a n s′ plain′
-  Met s (macFinish tag a tag′) s′ = MacFinishMet C s tag a s′ tag′
-  Met s (macFinishCheck tag a) s′ = MacFinishCheckMet C s tag a s′
+  Met s (macFinish tag a tag′) s′ = MacFinishMet C M s tag a s′ tag′
+  Met s (macFinishCheck tag a) s′ = MacFinishCheckMet C M s tag a s′
   Met s (abort plain a plain′) s′ = AbortMet C s plain a s′ plain′
 
   -- the calls, made one after the other on a session that was s₀ before them and is s behind them

@@ -19,7 +19,7 @@ use Rattle.promises.proofs.OpenAnswers.{open-zero, open-released, open-seven, o
 use Rattle.promises.proofs.MacAnswers.{mac-zero, mac-done}
 use Rattle.promises.proofs.StreamAnswers.{stream-zero, stream-done, streamXor-zero, streamXor-done}
 use Rattle.aegis128l.specs.Aegis128L.{machine, init}
-use Rattle.aegis128l.specs.Cipher.{aegis128l}
+use Rattle.aegis128l.specs.Cipher.{aegis128l, aegis128lMac}
 use Rattle.oneshot.specs.Leaves.{sealLeft, left}
 use Rattle.recorded.specs.Records.{Sealed, Opened, Refused, Maced, Streamed}
 
@@ -80,12 +80,12 @@ module _ (key nonce ad : List ℕ) where
 module _ (key nonce : List ℕ) where
   -- ---- the MAC
 
-  pub mac-says : (data′ made : List ℕ) {tag out : List ℕ} {a : ℕ} → left a out ≡ macOf aegis128l key nonce data′ made → a ≡ 0
+  pub mac-says : (data′ made : List ℕ) {tag out : List ℕ} {a : ℕ} → left a out ≡ macOf aegis128l aegis128lMac key nonce data′ made → a ≡ 0
       → length made ≡ length tag → out ≡ tag → Maced key nonce data′ tag
   mac-says data′ made e z nm ot =
       let zero = sym (ap (λ (r : Left). r .answer) e) ∙ z in
-      let done = e ∙ mac-done aegis128l key nonce data′ made (mac-zero aegis128l key nonce data′ made zero) in
-      record { tagged = sym ot ∙ ap (λ (r : Left). r .out) done ∙ ap (macTag aegis128l key nonce data′) nm }
+      let done = e ∙ mac-done aegis128l aegis128lMac key nonce data′ made (mac-zero aegis128l aegis128lMac key nonce data′ made zero) in
+      record { tagged = sym ot ∙ ap (λ (r : Left). r .out) done ∙ ap (macTag aegis128l aegis128lMac key nonce data′) nm }
 
   -- ---- the stream
 

@@ -9,7 +9,7 @@ use lib.Bits.{bitXor}
 use Rattle.machine.specs.Kinds as kinds
 use Rattle.promises.specs.OneShot.{ciphertext, sealTag, plaintext, openTag, macTag}
 use Rattle.aegis128l.specs.Aegis128L.{machine, init}
-use Rattle.aegis128l.specs.Cipher.{aegis128l}
+use Rattle.aegis128l.specs.Cipher.{aegis128l, aegis128lMac}
 
 -- the message seals to the ciphertext and the tag
 pub record Sealed (key nonce ad msg ct tag : List ℕ) : Type 0 where
@@ -31,7 +31,7 @@ pub record Refused (key nonce ad left ct tag : List ℕ) : Type 0 where
   pub erased : left ≡ replicate (length ct) 0xaa
 
 pub record Maced (key nonce data′ tag : List ℕ) : Type 0 where
-  pub tagged : tag ≡ macTag aegis128l key nonce data′ (length tag)
+  pub tagged : tag ≡ macTag aegis128l aegis128lMac key nonce data′ (length tag)
 
 pub record Streamed (key nonce stream : List ℕ) : Type 0 where
   pub text : stream ≡ kinds.keystream machine (init key nonce) (length stream)

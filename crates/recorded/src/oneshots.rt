@@ -3,7 +3,7 @@
 ghost use mathlib.Core.Path.{_≡_};
 ghost use mathlib.Core.Bool.{true};
 ghost use Rattle.promises.specs.OneShot as promise;
-ghost use Rattle.aegis128l.specs.Cipher.{aegis128l};
+ghost use Rattle.aegis128l.specs.Cipher.{aegis128l, aegis128lMac};
 ghost use Rattle.recorded.specs.Records.{Sealed, Opened, Refused, Maced, Streamed, flipped};
 
 // Sealing from buffer to buffer gives the ciphertext and the tag.
@@ -126,7 +126,7 @@ pub fn macs(key: &[u8], nonce: &[u8], data: &[u8], tag: &[u8], made: &mut [u8]) 
 
 // The check refuses the tag with one bit changed.
 pub fn mac_refuses(key: &[u8], nonce: &[u8], data: &[u8], tag: &[u8], damaged: &mut [u8]) -> bool
-    ensures { λ r. ⌜ (r ≡ true → promise.macCheckOf aegis128l (now (key .entry)) (now (nonce .entry)) (now («data» .entry)) (flipped (now (tag .entry))) ≡ 7) ⌝ }
+    ensures { λ r. ⌜ (r ≡ true → promise.macCheckOf aegis128l aegis128lMac (now (key .entry)) (now (nonce .entry)) (now («data» .entry)) (flipped (now (tag .entry))) ≡ 7) ⌝ }
 {
     if !crate::bytes::damage(tag, damaged) {
         return false;

@@ -14,7 +14,7 @@ use Rattle.answers.specs.Answers as answers
 use Rattle.answers.proofs.Answers.{FinishOk, OpenFinishOk, AbortOk, finish-ok, open-finish-ok, abort-ok}
 use Rattle.lent.specs.Lent.{same, wiped}
 use Rattle.lent.proofs.Wiped.{wiped-fits}
-use Rattle.promises.specs.Cipher.{Cipher}
+use Rattle.promises.specs.Cipher.{Cipher, Mac}
 use Rattle.promises.specs.Session.{pick, sealing, opening, macing, Session, Handed, Wrote, Opened, ifOpening, wellFormed, live, erased, ended, abortLive}
 use Rattle.promises.specs.Session.{sessionTag, sessionMac, sealFinish, macFinish, macFinishCheck, released, openFinish, abort}
 use Rattle.promises.proofs.SessionLive.{live-facts, opening-facts, abortLive-facts}
@@ -57,25 +57,25 @@ module _ {S : Type 0} (C : Cipher S) where
 
   -- ---- MAC
 
-  module _ (s : Session S) (tag : List ℕ) (l : Bool) (a : ℕ)
+  module _ (M : Mac S) (s : Session S) (tag : List ℕ) (l : Bool) (a : ℕ)
       (is-live : l ≡ live rate macing s) (answer : a ≡ answers.finish l (length tag) (s .tagSize)) where
-    pub mac-refused : (a ≡ 0 → ⊥) → _≡_ {A = Wrote S} (record { answer = a; session = s; out = tag }) (macFinish C s tag)
+    pub mac-refused : (a ≡ 0 → ⊥) → _≡_ {A = Wrote S} (record { answer = a; session = s; out = tag }) (macFinish C M s tag)
     unfolding macFinish
     mac-refused h = refuses _ a _ _ (ladder macing s tag l a is-live answer) h
 
-    pub mac-done : a ≡ 0 → (g : Handed S) (o : List ℕ) → Over g 0 → o ≡ sessionMac C s
-        → _≡_ {A = Wrote S} (record { answer = g .answer; session = g .session; out = o }) (macFinish C s tag)
+    pub mac-done : a ≡ 0 → (g : Handed S) (o : List ℕ) → Over g 0 → o ≡ sessionMac C M s
+        → _≡_ {A = Wrote S} (record { answer = g .answer; session = g .session; out = o }) (macFinish C M s tag)
     unfolding macFinish
     mac-done h g o eg eo =
         does _ a _ _ _ (ladder macing s tag l a is-live answer) h (λ k. record { answer = eg k .answer; session = eg k .session; out = eo k })
 
-    pub check-refused : (a ≡ 0 → ⊥) → _≡_ {A = Handed S} (record { answer = a; session = s }) (macFinishCheck C s tag)
+    pub check-refused : (a ≡ 0 → ⊥) → _≡_ {A = Handed S} (record { answer = a; session = s }) (macFinishCheck C M s tag)
     unfolding macFinishCheck
     check-refused h = refuses _ a _ _ (ladder macing s tag l a is-live answer) h
 
     -- the verdict, m
-    module _ (h : a ≡ 0) (g : Handed S) (m v : Bool) (verdict : m ≡ same tag (sessionMac C s)) (came : m ≡ v) where
-      pub check-done : Over g (answers.unless 7 v 0) → g ≡ macFinishCheck C s tag
+    module _ (h : a ≡ 0) (g : Handed S) (m v : Bool) (verdict : m ≡ same tag (sessionMac C M s)) (came : m ≡ v) where
+      pub check-done : Over g (answers.unless 7 v 0) → g ≡ macFinishCheck C M s tag
       unfolding macFinishCheck
       check-done eg =
           does _ a _ _ _ (ladder macing s tag l a is-live answer) h

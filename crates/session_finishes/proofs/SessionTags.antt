@@ -9,11 +9,11 @@ use lib.ListN.{length, take, length-append}
 use lib.Seq.{length-take-le, take-at}
 use Rattle.machine.specs.Machine.{Core, close}
 use Rattle.lent.specs.Lent.{same}
-use Rattle.promises.specs.Cipher.{Cipher}
+use Rattle.promises.specs.Cipher.{Cipher, Mac}
 use Rattle.promises.specs.Session.{Session, core, macClosed, sessionTag, sessionMac}
 
 module _ {S : Type 0} (C : Cipher S) where
-  open Cipher C using (machine, tag, macEmpty)
+  open Cipher C using (machine, tag)
 
   module _ (s : Session S) (k : Core S) (e : S) (o : List ℕ) (n : ℕ) (of-s : k ≡ core s) (own-size : n ≡ s .tagSize) where
     pub tag-is : e ≡ close machine k → o ≡ tag e (s .adLength) (s .msgLength) n → o ≡ sessionTag C s
@@ -21,22 +21,22 @@ module _ {S : Type 0} (C : Cipher S) where
     tag-is ee eo = eo ∙ (λ j. tag ((ee ∙ ap (close machine) of-s) j) (s .adLength) (s .msgLength) (own-size j))
 
     -- where no data came
-    pub mac-of-none : s .msgLength ≡ 0 → e ≡ macEmpty (k .state) → o ≡ tag e 0 (s .tagSize) n → o ≡ sessionMac C s
+    pub mac-of-none : (M : Mac S) → s .msgLength ≡ 0 → e ≡ M .empty (k .state) → o ≡ tag e 0 (s .tagSize) n → o ≡ sessionMac C M s
     unfolding sessionMac macClosed
-    mac-of-none z ee eo =
+    mac-of-none M z ee eo =
         eo
-        ∙ (λ j. tag ((ee ∙ ap (λ (x : Core S). macEmpty (x .state)) of-s) j) 0 (s .tagSize) (own-size j))
-        ∙ ap (λ (x : ℕ). tag (macClosed C x s) x (s .tagSize) (s .tagSize)) (sym z)
+        ∙ (λ j. tag ((ee ∙ ap (λ (x : Core S). M .empty (x .state)) of-s) j) 0 (s .tagSize) (own-size j))
+        ∙ ap (λ (x : ℕ). tag (macClosed C M x s) x (s .tagSize) (s .tagSize)) (sym z)
 
-    closed : (x : ℕ) → (x ≡ 0 → ⊥) → macClosed C x s ≡ close machine (core s)
+    closed : (M : Mac S) (x : ℕ) → (x ≡ 0 → ⊥) → macClosed C M x s ≡ close machine (core s)
     unfolding macClosed
-    closed zero h = absurd (h refl)
-    closed (suc x) h = refl
+    closed M zero h = absurd (h refl)
+    closed M (suc x) h = refl
 
-    pub mac-of-some : (s .msgLength ≡ 0 → ⊥) → e ≡ close machine k → o ≡ tag e (s .msgLength) (s .tagSize) n → o ≡ sessionMac C s
+    pub mac-of-some : (M : Mac S) → (s .msgLength ≡ 0 → ⊥) → e ≡ close machine k → o ≡ tag e (s .msgLength) (s .tagSize) n → o ≡ sessionMac C M s
     unfolding sessionMac
-    mac-of-some z ee eo =
-        eo ∙ (λ j. tag ((ee ∙ ap (close machine) of-s ∙ sym (closed (s .msgLength) z)) j) (s .msgLength) (s .tagSize) (own-size j))
+    mac-of-some M z ee eo =
+        eo ∙ (λ j. tag ((ee ∙ ap (close machine) of-s ∙ sym (closed M (s .msgLength) z)) j) (s .msgLength) (s .tagSize) (own-size j))
 
 -- ---- the first n bytes of l are lent, and come back as ys
 

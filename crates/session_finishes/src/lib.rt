@@ -7,7 +7,7 @@ ghost use lib.ListN.{length};
 ghost use Rattle.answers.specs.Answers.{limit, tagSize};
 ghost use Rattle.lent.specs.Lent.{same, wiped};
 ghost use Rattle.promises.specs.Session as promise;
-ghost use Rattle.aegis128l.specs.Cipher.{aegis128l};
+ghost use Rattle.aegis128l.specs.Cipher.{aegis128l, aegis128lMac};
 ghost use Rattle.session.specs.View.{sessionOf, handedOf, wroteOf, openedOf};
 use session::Finish;
 use session::Opened;
@@ -27,7 +27,7 @@ fn put_tag(s: Session, tag: &mut [u8])
 // And a MAC session's: where no data came, one block of zeros is absorbed.
 fn put_mac(s: Session, tag: &mut [u8])
     requires { ⌜ (promise.wellFormed 32 (sessionOf s) ≡ true) × (length (now tag) ≡ s .«tag_size») ⌝ }
-    ensures { λ _. ⌜ now (tag .exit) ≡ promise.sessionMac aegis128l (sessionOf s) ⌝ }
+    ensures { λ _. ⌜ now (tag .exit) ≡ promise.sessionMac aegis128l aegis128lMac (sessionOf s) ⌝ }
 {
     let t = aes::sbox();
     let c = session::core_of(s);
@@ -56,7 +56,7 @@ fn tag_matches(s: Session, tag: &[u8]) -> bool
 
 fn mac_matches(s: Session, tag: &[u8]) -> bool
     requires { ⌜ (promise.wellFormed 32 (sessionOf s) ≡ true) × (length (now tag) ≡ s .«tag_size») ⌝ }
-    ensures { λ r. ⌜ r ≡ same (now (tag .entry)) (promise.sessionMac aegis128l (sessionOf s)) ⌝ }
+    ensures { λ r. ⌜ r ≡ same (now (tag .entry)) (promise.sessionMac aegis128l aegis128lMac (sessionOf s)) ⌝ }
 {
     let n = tag.len();
     let mut expected = [0u8; 32];
@@ -80,7 +80,7 @@ pub fn seal_finish(s: Session, tag: &mut [u8]) -> Piece
 }
 
 pub fn mac_finish(s: Session, tag: &mut [u8]) -> Piece
-    ensures { λ r. ⌜ wroteOf r (now (tag .exit)) ≡ promise.macFinish aegis128l (sessionOf s) (now (tag .entry)) ⌝ }
+    ensures { λ r. ⌜ wroteOf r (now (tag .exit)) ≡ promise.macFinish aegis128l aegis128lMac (sessionOf s) (now (tag .entry)) ⌝ }
 {
     let live = session::live(s, session::MACING);
     let a = answers::pieces::finish(live, tag.len(), s.tag_size);
@@ -95,7 +95,7 @@ pub fn mac_finish(s: Session, tag: &mut [u8]) -> Piece
 }
 
 pub fn mac_finish_check(s: Session, tag: &[u8]) -> Piece
-    ensures { λ r. ⌜ handedOf r ≡ promise.macFinishCheck aegis128l (sessionOf s) (now (tag .entry)) ⌝ }
+    ensures { λ r. ⌜ handedOf r ≡ promise.macFinishCheck aegis128l aegis128lMac (sessionOf s) (now (tag .entry)) ⌝ }
 {
     let live = session::live(s, session::MACING);
     let a = answers::pieces::finish(live, tag.len(), s.tag_size);

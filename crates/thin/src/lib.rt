@@ -1,7 +1,7 @@
 // The thin form of sessions: the caller lends its session, and each call changes it in place. Each calls the function by value, and is
 // proved by one walk of the machine code for each shape (proofs/LentInOut.antt, LentIn.antt, LentOut.antt).
 ghost use Rattle.promises.specs.Met.{SealStartMet, OpenStartMet, MacStartMet, SealPieceMet, SealPieceInPlaceMet, SealFinishMet, OpenPieceMet, OpenFinishMet, AbortMet, MacPieceMet, MacFinishMet, MacFinishCheckMet};
-ghost use Rattle.aegis128l.specs.Cipher.{aegis128l};
+ghost use Rattle.aegis128l.specs.Cipher.{aegis128l, aegis128lMac};
 ghost use Rattle.session.specs.View.{sessionOf};
 use session::Opened;
 use session::Session;
@@ -128,7 +128,7 @@ pub extern "C" fn aegis128l_mac_piece(s: &mut Session, data: &[u8]) -> u8
 
 #[no_mangle]
 pub extern "C" fn aegis128l_mac_finish(s: &mut Session, tag: &mut [u8]) -> u8
-    ensures { λ r. ⌜ MacFinishMet aegis128l (sessionOf (now (s .entry))) (now (tag .entry))
+    ensures { λ r. ⌜ MacFinishMet aegis128l aegis128lMac (sessionOf (now (s .entry))) (now (tag .entry))
         r (sessionOf (now (s .exit))) (now (tag .exit)) ⌝ }
 {
     let r = session_finishes::mac_finish(*s, tag);
@@ -138,7 +138,7 @@ pub extern "C" fn aegis128l_mac_finish(s: &mut Session, tag: &mut [u8]) -> u8
 
 #[no_mangle]
 pub extern "C" fn aegis128l_mac_finish_check(s: &mut Session, tag: &[u8]) -> u8
-    ensures { λ r. ⌜ MacFinishCheckMet aegis128l (sessionOf (now (s .entry))) (now (tag .entry))
+    ensures { λ r. ⌜ MacFinishCheckMet aegis128l aegis128lMac (sessionOf (now (s .entry))) (now (tag .entry))
         r (sessionOf (now (s .exit))) ⌝ }
 {
     let r = session_finishes::mac_finish_check(*s, tag);

@@ -4,7 +4,7 @@ ghost use mathlib.Core.Bool.{true, false};
 ghost use Prim.Native.Nat.{_≤_, _<_};
 ghost use lib.ListN.{length};
 ghost use Rattle.promises.specs.OneShot.{macCheckOf};
-ghost use Rattle.aegis128l.specs.Cipher.{aegis128l};
+ghost use Rattle.aegis128l.specs.Cipher.{aegis128l, aegis128lMac};
 ghost use Rattle.recorded.specs.List.{Fits, keyIn, nonceIn, adIn, msgIn, ctIn, tagIn};
 ghost use Rattle.recorded.specs.Records.{Sealed, Opened, Refused, Accepted, Maced, Streamed, flipped};
 ghost use Rattle.vectors.specs.Walk.{Holds};
@@ -246,7 +246,7 @@ fn macs(rec: &[u8], l: Layout) -> bool
 // The tag with one bit changed is refused.
 fn mac_refuses(rec: &[u8], l: Layout) -> bool
     requires { ⌜ Fits l (length (now rec)) ⌝ }
-    ensures { λ r. ⌜ (r ≡ true → macCheckOf aegis128l (keyIn (now (rec .entry))) (nonceIn (now (rec .entry))) (msgIn l (now (rec .entry))) (flipped (tagIn l (now (rec .entry)))) ≡ 7) ⌝ }
+    ensures { λ r. ⌜ (r ≡ true → macCheckOf aegis128l aegis128lMac (keyIn (now (rec .entry))) (nonceIn (now (rec .entry))) (msgIn l (now (rec .entry))) (flipped (tagIn l (now (rec .entry)))) ≡ 7) ⌝ }
 {
     let m = l.msg;
     let c = l.ct;

@@ -2,14 +2,14 @@
 -- Assumes nothing.
 use mathlib.Core.Bool.{true, false}
 use borrow.Author.Needs.{needs}
-use Rattle.aegis128l.specs.Cipher.{aegis128l}
+use Rattle.aegis128l.specs.Cipher.{aegis128l, aegis128lMac}
 use Rattle.promises.specs.Session.{macing}
 use Rattle.session_finishes.proofs.FinishCalls.{finish-asks, check-refused, check-done}
 use Rattle.session_finishes.proofs.mac_finish_check.Statement.{statement}
 use Rattle.session_finishes.proofs.mac_finish_check.Tie as tie
 
 returns : tie.Need-returns
-returns c = check-refused aegis128l _ _ _ _ (c .before .before .live .ensures) (c .before .finish .ensures) (c .if1 .taken)
+returns c = check-refused aegis128l aegis128lMac _ _ _ _ (c .before .before .live .ensures) (c .before .finish .ensures) (c .if1 .taken)
 
 mac-matches-requires : tie.Need-mac-matches-requires
 mac-matches-requires c κs =
@@ -19,13 +19,13 @@ mac-matches-requires c κs =
 returns-2 : tie.Need-returns-2
 returns-2 c =
     let tested = c .before .before .before in
-    check-done aegis128l _ _ _ _ (tested .before .before .live .ensures) (tested .before .finish .ensures) (tested .if1 .left) _ _ true
+    check-done aegis128l aegis128lMac _ _ _ _ (tested .before .before .live .ensures) (tested .before .finish .ensures) (tested .if1 .left) _ _ true
     (c .before .before .mac-matches .ensures) (c .before .if2 .taken) (c .over-with .ensures)
 
 returns-3 : tie.Need-returns-3
 returns-3 c =
     let tested = c .before .before .before in
-    check-done aegis128l _ _ _ _ (tested .before .before .live .ensures) (tested .before .finish .ensures) (tested .if1 .left) _ _ false
+    check-done aegis128l aegis128lMac _ _ _ _ (tested .before .before .live .ensures) (tested .before .finish .ensures) (tested .if1 .left) _ _ false
     (c .before .before .mac-matches .ensures) (c .before .if2 .left) (c .over-with2 .ensures)
 
 pub mac-finish-check-spec : {M : Type 1} → statement M

@@ -6,7 +6,7 @@ use lib.ListN.{length, drop}
 use borrow.Author.Needs.{needs}
 use native.Mathlib.Omega.{arith}
 use Rattle.machine.specs.Bytes.{zeros}
-use Rattle.aegis128l.specs.Cipher.{aegis128l}
+use Rattle.aegis128l.specs.Cipher.{aegis128l, aegis128lMac}
 use Rattle.session.specs.View.{sessionOf}
 use Rattle.session.proofs.LiveFacts.{formed-tag-most, sessionMac-length}
 use Rattle.session_finishes.proofs.SessionTags.{part-size, part-within, part-same}
@@ -33,13 +33,13 @@ part-tags-match-end c =
     let p = earlier .before .before .before .pre in
     let e = earlier .put-mac .ensures in
     part-within _ _ (earlier .put-mac .last .1 .0) (drop (length (earlier .before .before .before .args .tag .now) - 0) (zeros 32))
-    (ap length e ∙ sessionMac-length aegis128l _ (p .0)) (p .1)
+    (ap length e ∙ sessionMac-length aegis128l _ (p .0) aegis128lMac) (p .1)
 
 returns : tie.Need-returns
 returns c =
     let p = c .before .before .before .before .before .before .before .pre in
     let e = c .before .before .before .before .put-mac .ensures in
-    part-same _ _ _ _ (ap length e ∙ sessionMac-length aegis128l _ (p .0)) (p .1) _ _ _ (c .tags-match .ensures) e
+    part-same _ _ _ _ (ap length e ∙ sessionMac-length aegis128l _ (p .0) aegis128lMac) (p .1) _ _ _ (c .tags-match .ensures) e
 
 pub mac-matches-spec : {M : Type 1} → statement M
 mac-matches-spec =

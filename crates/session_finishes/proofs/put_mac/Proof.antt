@@ -4,7 +4,7 @@ use mathlib.Core.Path.{ap, _∙_}
 use borrow.Author.Needs.{needs}
 use native.Mathlib.Omega.{arith}
 use Rattle.answers.specs.Answers.{tagSize}
-use Rattle.aegis128l.specs.Cipher.{aegis128l}
+use Rattle.aegis128l.specs.Cipher.{aegis128l, aegis128lMac}
 use Rattle.session.specs.View.{sessionOf}
 use Rattle.session.proofs.LiveFacts.{formed-fill, formed-lengths, formed-tag, formed-tag-most, core-fill}
 use Rattle.session_finishes.proofs.SessionTags.{mac-of-none, mac-of-some}
@@ -20,7 +20,7 @@ tag-requires c κs =
 returns : tie.Need-returns
 returns c =
     let tested = c .before .before .before .before .before .before .before .before .before in
-    mac-of-none aegis128l _ _ _ _ _ (tested .before .before .core-of .ensures) (tested .before .before .before .before .before .pre .1)
+    mac-of-none aegis128l _ _ _ _ _ (tested .before .before .core-of .ensures) (tested .before .before .before .before .before .pre .1) aegis128lMac
     (tested .if1 .taken) (c .before .before .before .before .before .absorb .ensures) (c .before .before .tag .ensures)
 
 close-requires : tie.Need-close-requires
@@ -41,7 +41,7 @@ tag-requires-2 c κs =
 returns-2 : tie.Need-returns-2
 returns-2 c =
     let tested = c .before .before .before .before .before .before .before in
-    mac-of-some aegis128l _ _ _ _ _ (tested .before .before .core-of .ensures) (tested .before .before .before .before .before .pre .1)
+    mac-of-some aegis128l _ _ _ _ _ (tested .before .before .core-of .ensures) (tested .before .before .before .before .before .pre .1) aegis128lMac
     (tested .if1 .left) (c .before .before .before .before .before .close .ensures) (c .before .before .tag3 .ensures)
 
 pub put-mac-spec : {M : Type 1} → statement M

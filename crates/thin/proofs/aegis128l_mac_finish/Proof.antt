@@ -4,7 +4,7 @@ use contract.Running.{givenOf, tables, tablesOf}
 use denote.Triple.Spec.{tripleOf}
 use denote.Triple.Table.{entered, cited}
 use Rattle.promises.specs.Met.{MacFinishMet}
-use Rattle.aegis128l.specs.Cipher.{aegis128l}
+use Rattle.aegis128l.specs.Cipher.{aegis128l, aegis128lMac}
 use Rattle.session.specs.View.{sessionOf}
 use Rattle.session_finishes.proofs.mac_finish.Symbol as core-def
 use Rattle.session_finishes.proofs.mac_finish.Symbol.{name as #core}
@@ -17,7 +17,7 @@ use Rattle.thin.proofs.aegis128l_mac_finish.Statement as stated
 use Rattle.thin.proofs.aegis128l_mac_finish.Code as code
 
 abbrev E : out-Effect piece
-E s ys r zs = MacFinishMet aegis128l (sessionOf s) ys (r .answer) (sessionOf (r .session)) zs
+E s ys r zs = MacFinishMet aegis128l aegis128lMac (sessionOf s) ys (r .answer) (sessionOf (r .session)) zs
 
 pub aegis128l-mac-finish-spec : {M : Type 1} → stated.statement M
 unfolding code.routine tablesOf

@@ -4,7 +4,7 @@ use contract.Running.{givenOf, tables, tablesOf}
 use denote.Triple.Spec.{tripleOf}
 use denote.Triple.Table.{entered, cited}
 use Rattle.promises.specs.Met.{MacFinishCheckMet}
-use Rattle.aegis128l.specs.Cipher.{aegis128l}
+use Rattle.aegis128l.specs.Cipher.{aegis128l, aegis128lMac}
 use Rattle.session.specs.View.{sessionOf}
 use Rattle.session_finishes.proofs.mac_finish_check.Symbol as core-def
 use Rattle.session_finishes.proofs.mac_finish_check.Symbol.{name as #core}
@@ -17,7 +17,7 @@ use Rattle.thin.proofs.aegis128l_mac_finish_check.Statement as stated
 use Rattle.thin.proofs.aegis128l_mac_finish_check.Code as code
 
 abbrev E : in-Effect piece
-E s xs r = MacFinishCheckMet aegis128l (sessionOf s) xs (r .answer) (sessionOf (r .session))
+E s xs r = MacFinishCheckMet aegis128l aegis128lMac (sessionOf s) xs (r .answer) (sessionOf (r .session))
 
 pub aegis128l-mac-finish-check-spec : {M : Type 1} → stated.statement M
 unfolding code.routine tablesOf

@@ -6,7 +6,7 @@ use mathlib.Core.List.{List}
 use borrow.Author.Needs.{needs}
 use borrow.Author.Tests.{eqb-true, not-false}
 use Rattle.promises.specs.OneShot.{macCheckOf}
-use Rattle.aegis128l.specs.Cipher.{aegis128l}
+use Rattle.aegis128l.specs.Cipher.{aegis128l, aegis128lMac}
 use Rattle.recorded.proofs.Verdicts.{never}
 use Rattle.recorded.proofs.oneshots.mac_refuses.Statement.{statement}
 use Rattle.recorded.proofs.oneshots.mac_refuses.Tie as tie
@@ -17,7 +17,7 @@ returns-2 c h =
     let at-damage = at-if1 .before .before .before in
     let start = at-damage .before .before .before .before .before .before .before in
     let g = start .args in
-    ap (macCheckOf aegis128l (g .key .now) (g .nonce .now) (g .«data» .now)) (sym (at-damage .damage .ensures (not-false _ (at-if1 .if1 .left))))
+    ap (macCheckOf aegis128l aegis128lMac (g .key .now) (g .nonce .now) (g .«data» .now)) (sym (at-damage .damage .ensures (not-false _ (at-if1 .if1 .left))))
     ∙ sym (c .aegis128l-mac-check .ensures) ∙ eqb-true _ _ h
 
 pub mac-refuses-spec : {M : Type 1} → statement M
