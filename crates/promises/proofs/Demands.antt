@@ -16,8 +16,8 @@ use Rattle.promises.specs.Cipher.{Cipher, Mac}
 use Rattle.promises.specs.OneShot.{SealLeft, Left, onto, ciphertext, plaintext, sealTag, sealOf, openOf}
 use Rattle.promises.specs.Met.{SealMet, OpenMet, OpenInPlaceMet}
 use Rattle.promises.specs.Trace.{Made, openPiece, sealFinish, openFinish, Calls, _▸_, taken, given, input, Going, Refused, SealSession, OpenSession}
-use Rattle.promises.specs.Demands.{Demand1, Demand3, Fixed, SealedAs, FirstOf, all-of, and-more}
-use Rattle.promises.proofs.Allowed.{Allowed}
+use Rattle.promises.specs.Demands.{Demand1, Demand3, SealedAs, FirstOf, all-of, and-more}
+use Rattle.promises.specs.Allowed.{Allowed}
 use Rattle.promises.proofs.Texts.{ciphertext-length, ciphertext-injective, sealTag-length}
 use Rattle.promises.proofs.Onto.{take-onto, onto-whole}
 use Rattle.promises.proofs.Forms.{SealedForm, one-form, one-message, form-length}
@@ -72,7 +72,7 @@ module _ {S : Type 0} (C : Cipher S) (M : Mac S) where
 
 -- ---- demand 3
 
-module _ {S : Type 0} (C : Cipher S) (M : Mac S) (key nonce ad : List ℕ) (n : ℕ) (fixed : Fixed C key nonce ad n) where
+module _ {S : Type 0} (C : Cipher S) (M : Mac S) (key nonce ad : List ℕ) (n : ℕ) (fixed : Allowed C key nonce ad n) where
   allowed : (k : ℕ) → k ≡ n → Allowed C key nonce ad k
   allowed k e = rw e (record { key-size = fixed .key-size; nonce-size = fixed .nonce-size; ad-fits = fixed .ad-fits; tag-size = fixed .tag-size })
 

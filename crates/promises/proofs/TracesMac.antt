@@ -11,8 +11,9 @@ use native.Mathlib.Omega.{arith}
 use lib.ListN.{length}
 use Rattle.machine.specs.Machine.{Machine}
 use Rattle.answers.specs.Answers as answers
-use Rattle.answers.proofs.Answers.{MacStartOk}
+use Rattle.answers.proofs.Answers.{ok-mac-start}
 use Rattle.promises.specs.Cipher.{Cipher, Mac}
+use Rattle.promises.specs.Allowed.{Allowed}
 use Rattle.promises.specs.OneShot.{Left, macTag, macOf, macCheckOf}
 use Rattle.promises.specs.Session.{macing, opening, Session, Handed, Wrote, live, ended, macStart}
 use Rattle.promises.specs.Session as session
@@ -39,6 +40,15 @@ module _ {S : Type 0} (C : Cipher S) (M : Mac S) (key nonce : List ℕ) (n : ℕ
       onDone-cases (λ (r : Handed S). r .session .mark ≢ opening) (answers.macStart size n (length key) (length nonce)) _ _
       (λ b e z. omega arith) (λ e z. omega arith)
 
+  -- with the right sizes it answers 0
+  pub mac-session-starts : {cs : Calls} (t : From cs) → Allowed C key nonce [] n → t .started ≡ 0
+  unfolding macStart
+  mac-session-starts t a =
+      let goes : answers.macStart size n (length key) (length nonce) ≡ 0 =
+      ok-mac-start (record { tag-size = a .tag-size; key-size = a .key-size; nonce-size = a .nonce-size }) in
+      let answers-0 : macStart C key nonce n .answer ≡ 0 = rw goes in
+      ap (λ (r : Handed S). r .answer) (t .start-met) ∙ answers-0
+
   start-done : macStart C key nonce n .answer ≡ 0 → macStart C key nonce n .session .mark ≡ macing
   unfolding macStart session.started
   start-done =
@@ -53,7 +63,7 @@ module _ {S : Type 0} (C : Cipher S) (M : Mac S) (key nonce : List ℕ) (n : ℕ
 
   -- until a call has ended it, it is live
   module _ {cs : Calls} (t : From cs) (done : t .started ≡ 0) (going : Going cs) where
-    still-live : MacLive C M key nonce n (world C M (t .last) [] cs)
+    pub still-live : MacLive C M key nonce n (world C M (t .last) [] cs)
     unfolding ended macRun
     still-live = go (subst (MacStands C M key nonce n) (at-end t .stands) (mac-run-stands C M key nonce n [] (at-end t .run-of)))
       where
@@ -67,10 +77,10 @@ module _ {S : Type 0} (C : Cipher S) (M : Mac S) (key nonce : List ℕ) (n : ℕ
         go (inl l) = l
         go (inr e) = absurd (omega (arith, sym mark ∙ ap (λ (s : Session S). s .mark) e))
 
-    is-live : live rate macing (t .last) ≡ true
-    is-live = mac-live-live C M key nonce n (world C M (t .last) [] cs) still-live
+    pub mac-session-live : live rate macing (t .last) ≡ true
+    mac-session-live = mac-live-live C M key nonce n (world C M (t .last) [] cs) still-live
 
-  abbrev before : {cs : Calls} {c : Made} (t : From (cs ▸ c)) → From cs
+  abbrev pub before : {cs : Calls} {c : Made} (t : From (cs ▸ c)) → From cs
   before t = let b = trace-before C M (t .trace) in
       record { started = t .started; first = t .first; last = b .0; start-met = t .start-met; trace = b .1 }
 
@@ -82,7 +92,7 @@ module _ {S : Type 0} (C : Cipher S) (M : Mac S) (key nonce : List ℕ) (n : ℕ
     unfolding macRun hands
     mac-session-finishes done going e =
         let i = at-end (before t) in
-        let l = is-live (before t) done going in
+        let l = mac-session-live (before t) done going in
         let f : _≡_ {A = Result} (record { answer = a; count = 0; out = tag′ }) (record { answer = 0; count = 0; out = macTag C M key nonce (taken cs) n }) =
         ap (wrote C M) (trace-before C M (t .trace) .2)
         ∙ subst (λ (w : World S). live rate macing (w .session) ≡ true → hands C M w (call.macFinish tag) ≡ record { answer = 0; count = 0; out = macTag C M key nonce (w .taken) n })
@@ -107,5 +117,5 @@ module _ {S : Type 0} (C : Cipher S) (M : Mac S) (key nonce : List ℕ) (n : ℕ
         let i = at-end (before t) in
         ap (λ (x : Handed S). x .answer) (trace-before C M (t .trace) .2)
         ∙ subst (λ (w : World S). live rate macing (w .session) ≡ true → hands C M w (call.macFinishCheck tag) .answer ≡ macCheckOf C M key nonce (w .taken) tag)
-        (i .stands) (λ l. mac.mac-run-check-one-shot C M key nonce n [] (i .run-of) l tag e) (is-live (before t) done going)
+        (i .stands) (λ l. mac.mac-run-check-one-shot C M key nonce n [] (i .run-of) l tag e) (mac-session-live (before t) done going)
         ∙ sym m

@@ -23,7 +23,7 @@ use Rattle.promises.specs.Run.{Call, World, Result, begun, wrote, counte
 use Rattle.promises.specs.Run as call
 use Rattle.promises.specs.Trace.{Made, sealPiece, sealPieceInPlace, openPiece, macPiece, sealFinish, openFinish, macFinish, macFinishCheck, abort}
 use Rattle.promises.specs.Trace.{Calls, none, _▸_, counts, taken, given, Going, Lent, Met, Trace, OneBuffer, at-first, SealSession, OpenSession}
-use Rattle.promises.proofs.Allowed.{Allowed}
+use Rattle.promises.specs.Allowed.{Allowed}
 use Rattle.promises.proofs.Texts.{plaintext-length, ciphertext-length, sealTag-length}
 use Rattle.promises.proofs.Onto.{take-onto}
 use Rattle.promises.proofs.Forms.{SealedForm}
@@ -111,6 +111,19 @@ module _ {S : Type 0} (C : Cipher S) (M : Mac S) (key nonce ad : List ℕ) (n : 
       ∙ ap (λ (s : Session S). s .mark) (first-is t)
       ∙ start-done (sym (ap (λ (r : Handed S). r .answer) (t .start-met)) ∙ done)
 
+  pub still-live : {cs : Calls} {p : List ℕ} (t : From cs p) → t .started ≡ 0 → Going cs → OpenLive C M key nonce ad n p₀ (world C M (t .last) p cs)
+  still-live t done g = lives (at-end t) (still-opening t done g)
+
+  -- and live, with the room of its start
+  pub open-session-live : {cs : Calls} {p : List ℕ} (t : From cs p) → t .started ≡ 0 → Going cs
+      → (live rate opening (t .last) ≡ true) × (t .last .room ≡ length p₀)
+  open-session-live {cs} {p} t done g = (
+    open-live-live C M key nonce ad n p₀ (world C M (t .last) p cs) (still-live t done g),
+    going-goes C M (t .trace) g .1
+        ∙ ap (λ (s : Session S). s .room) (first-is t)
+        ∙ start-room (start-done (sym (ap (λ (r : Handed S). r .answer) (t .start-met)) ∙ done)),
+  )
+
   -- ---- the buffer: the plaintext of what was taken, and behind it the bytes of the start
 
   pub record Holds (xs buf : List ℕ) : Type 0 where
@@ -123,7 +136,7 @@ module _ {S : Type 0} (C : Cipher S) (M : Mac S) (key nonce ad : List ℕ) (n : 
 
   -- at any time until a call ends the session
   pub open-session-holds : {cs : Calls} {p : List ℕ} (t : From cs p) → t .started ≡ 0 → Going cs → Holds (taken cs) p
-  open-session-holds {cs} {p} t done g = holds cs (t .last) p (lives (at-end t) (still-opening t done g))
+  open-session-holds {cs} {p} t done g = holds cs (t .last) p (still-live t done g)
 
   -- after every accepted piece
   module _ {cs : Calls} (ct b : List ℕ) (a : ℕ) (b′ : List ℕ) {p : List ℕ} (t : From (cs ▸ openPiece ct b a b′) p) where

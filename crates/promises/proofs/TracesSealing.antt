@@ -20,7 +20,7 @@ use Rattle.promises.specs.Met.{SealMet}
 use Rattle.promises.specs.Run.{Call, World, Result, begun, wrote, hands, run, sealRun}
 use Rattle.promises.specs.Run as call
 use Rattle.promises.specs.Trace.{Made, sealPiece, sealPieceInPlace, sealFinish, Calls, _▸_, taken, given, Going, Met, Trace, SealSession}
-use Rattle.promises.proofs.Allowed.{Allowed}
+use Rattle.promises.specs.Allowed.{Allowed}
 use Rattle.promises.proofs.Texts.{ciphertext-length, ciphertext-injective, sealTag-length}
 use Rattle.promises.proofs.Onto.{take-onto}
 use Rattle.promises.proofs.Forms.{SealedForm}
@@ -93,7 +93,7 @@ module _ {S : Type 0} (C : Cipher S) (M : Mac S) (key nonce ad : List ℕ) (n : 
   -- ---- until a call has ended it, it is live
 
   module _ {cs : Calls} (t : From cs) (done : t .started ≡ 0) (going : Going cs) where
-    still-live : SealLive C M key nonce ad n (world C M (t .last) [] cs)
+    pub still-live : SealLive C M key nonce ad n (world C M (t .last) [] cs)
     unfolding ended
     still-live = go (seal-session-stands t .live-or-over)
       where
@@ -113,7 +113,7 @@ module _ {S : Type 0} (C : Cipher S) (M : Mac S) (key nonce ad : List ℕ) (n : 
     pub seal-session-within : length (taken cs) ≤ answers.limit
     seal-session-within = still-live .within
 
-  abbrev before : {cs : Calls} {c : Made} (t : From (cs ▸ c)) → From cs
+  abbrev pub before : {cs : Calls} {c : Made} (t : From (cs ▸ c)) → From cs
   before t = let b = trace-before C M (t .trace) in
       record { started = t .started; first = t .first; last = b .0; start-met = t .start-met; trace = b .1 }
 

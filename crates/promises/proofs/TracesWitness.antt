@@ -7,11 +7,12 @@ use mathlib.Core.List.{List, [], _∷_}
 use lib.ListN.{length, getD, length-replicate}
 use Rattle.machine.specs.Bytes.{zeros}
 use Rattle.promises.specs.Cipher.{Cipher, Mac}
+use Rattle.promises.specs.Allowed.{Allowed}
 use Rattle.promises.specs.Session.{sealStart, openStart}
 use Rattle.promises.specs.Run.{World, begun, step, hands, run, openRun}
 use Rattle.promises.specs.Run as call
 use Rattle.promises.specs.Trace.{Made, Calls, none, _▸_, sealFinish, openFinish, at-start, made, kept, Going, Refused, SealSession, OpenSession}
-use Rattle.promises.specs.Demands.{Fixed, FirstOf, all-of, and-more}
+use Rattle.promises.specs.Demands.{FirstOf, all-of, and-more}
 use Rattle.promises.proofs.Allowed.{allowed-zeros}
 use Rattle.promises.proofs.RunsWitness.{blank-key, openCalls, opened, otherPlain, other-room, wrong-tag-witness, changed-witness}
 use Rattle.promises.proofs.TracesSealing.{seal-session-starts, seal-session-finishes}
@@ -20,7 +21,7 @@ use Rattle.promises.proofs.TracesAnswered.{made-of, made-met, made-keep
 module _ {S : Type 0} (C : Cipher S) (M : Mac S) where
   open Cipher C using (size)
 
-  pub fixed-zeros : Fixed C (zeros size) (zeros size) [] 16
+  pub fixed-zeros : Allowed C (zeros size) (zeros size) [] 16
   fixed-zeros = let a = allowed-zeros C in record { key-size = a .key-size; nonce-size = a .nonce-size; ad-fits = a .ad-fits; tag-size = a .tag-size }
 
   -- a sealing that goes on, and its finish answers 0

@@ -45,12 +45,6 @@ pub record Demand1 {S : Type 0} (C : Cipher S) (M : Mac S) : Type 0 where
 -- ---- demand 3: "Fix key, nonce, tag size and associated data, with that data and the message at most 2^61-1 bytes each and room lent for
 -- the output."
 
-pub record Fixed {S : Type 0} (C : Cipher S) (key nonce ad : List ℕ) (n : ℕ) : Type 0 where
-  pub key-size : length key ≡ C .size
-  pub nonce-size : length nonce ≡ C .size
-  pub ad-fits : length ad ≤ limit
-  pub tag-size : tagSize n ≡ true
-
 -- ct and tag are the sealed form of msg: what every call of seal makes of it
 pub record SealedAs {S : Type 0} (C : Cipher S) (key nonce ad : List ℕ) (n : ℕ) (msg ct tag : List ℕ) : Type 0 where
   pub within : length msg ≤ limit

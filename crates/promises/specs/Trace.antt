@@ -56,6 +56,29 @@ pub data Calls : Type 0 where
 
 -- ---- what can be seen of them
 
+abbrev pub answerOf : Made → ℕ
+answerOf (sealPiece msg out a out′) = a
+answerOf (sealPieceInPlace buf a buf′) = a
+answerOf (openPiece ct plain a plain′) = a
+answerOf (macPiece data′ a) = a
+answerOf (sealFinish tag a tag′) = a
+answerOf (openFinish tag plain a n plain′) = a
+answerOf (macFinish tag a tag′) = a
+answerOf (macFinishCheck tag a) = a
+answerOf (abort plain a plain′) = a
+
+-- no lent byte was changed, and the count that is handed back is 0
+abbrev pub LeftAlone : Made → Type 0
+LeftAlone (sealPiece msg out a out′) = out′ ≡ out
+LeftAlone (sealPieceInPlace buf a buf′) = buf′ ≡ buf
+LeftAlone (openPiece ct plain a plain′) = plain′ ≡ plain
+LeftAlone (macPiece data′ a) = Unit {0}
+LeftAlone (sealFinish tag a tag′) = tag′ ≡ tag
+LeftAlone (openFinish tag plain a n plain′) = (plain′ ≡ plain) × (n ≡ 0)
+LeftAlone (macFinish tag a tag′) = tag′ ≡ tag
+LeftAlone (macFinishCheck tag a) = Unit {0}
+LeftAlone (abort plain a plain′) = plain′ ≡ plain
+
 -- bytes count where the piece was accepted
 abbrev pub counts : ℕ → List ℕ → List ℕ
 counts answer xs = onDone answer (λ a. []) xs
@@ -110,6 +133,11 @@ abbrev pub Going : Calls → Type 0
 Going none = Unit {0}
 Going (cs ▸ c) = Going cs × (Ended c → ⊥)
 
+-- one of the calls did
+abbrev pub Over : Calls → Type 0
+Over none = ⊥
+Over (cs ▸ c) = Over cs ⊎ Ended c
+
 -- a call that ends an opening and does not release it: a finish that answers 7, an abort
 abbrev pub Erases : Made → Type 0
 Erases (sealPiece msg out a out′) = ⊥
@@ -148,6 +176,36 @@ Keeps room p (abort plain a plain′) p′ = Lent room p plain plain′ p′
 pub data OneBuffer (p₀ : List ℕ) : Calls → List ℕ → Type 0 where
   at-first : OneBuffer p₀ none p₀
   kept : {cs : Calls} {p p′ : List ℕ} → OneBuffer p₀ cs p → (c : Made) → Keeps (length p₀) p c p′ → OneBuffer p₀ (cs ▸ c) p′
+
+-- ---- a buffer of another length than the one that was recorded at the start
+
+-- each call that takes an opening's buffer was lent such a one
+abbrev pub LentOther : ℕ → Made → Type 0
+LentOther room (sealPiece msg out a out′) = Unit {0}
+LentOther room (sealPieceInPlace buf a buf′) = Unit {0}
+LentOther room (openPiece ct plain a plain′) = length plain ≢ room
+LentOther room (macPiece data′ a) = Unit {0}
+LentOther room (sealFinish tag a tag′) = Unit {0}
+LentOther room (openFinish tag plain a n plain′) = length plain ≢ room
+LentOther room (macFinish tag a tag′) = Unit {0}
+LentOther room (macFinishCheck tag a) = Unit {0}
+LentOther room (abort plain a plain′) = length plain ≢ room
+
+abbrev pub AllLentOther : ℕ → Calls → Type 0
+AllLentOther room none = Unit {0}
+AllLentOther room (cs ▸ c) = AllLentOther room cs × LentOther room c
+
+-- a call that takes an opening's buffer answers 10, and any other call 8
+abbrev pub AnswersOther : Made → Type 0
+AnswersOther (sealPiece msg out a out′) = a ≡ 8
+AnswersOther (sealPieceInPlace buf a buf′) = a ≡ 8
+AnswersOther (openPiece ct plain a plain′) = a ≡ 10
+AnswersOther (macPiece data′ a) = a ≡ 8
+AnswersOther (sealFinish tag a tag′) = a ≡ 8
+AnswersOther (openFinish tag plain a n plain′) = a ≡ 10
+AnswersOther (macFinish tag a tag′) = a ≡ 8
+AnswersOther (macFinishCheck tag a) = a ≡ 8
+AnswersOther (abort plain a plain′) = a ≡ 10
 
 module _ {S : Type 0} (C : Cipher S) (M : Mac S) where
   -- ---- the contract of a call that was made on the session s, and left s′
