@@ -1,0 +1,131 @@
+-- "The first that applies, in this order, is the answer": every exported call answers k exactly if rung k of its order fails and all before it
+-- pass, and 0 exactly if all pass.
+-- Assumes nothing.
+use Prim.Native.Nat.{ℕ, zero, suc}
+use mathlib.Core.Path.{_≡_, refl, sym, ap, _∙_}
+use mathlib.Core.Bool.{Bool, true, false}
+use mathlib.Core.Logic.{_↔_}
+use mathlib.Core.List.{List, [], _∷_, _++_}
+use native.Mathlib.Omega.{arith}
+use lib.ListN.{length}
+use Rattle.machine.specs.Machine.{Machine}
+use Rattle.answers.specs.Answers.{Rung, unless, climb, FirstApplies}
+use Rattle.answers.specs.Answers as answers
+use Rattle.answers.proofs.Ladder.{Extends}
+use Rattle.answers.proofs.Ladders.{numbered, climb-exactly, climb-extends}
+use Rattle.lent.specs.Lent.{same}
+use Rattle.promises.specs.Cipher.{Cipher}
+use Rattle.promises.specs.OneShot.{SealLeft, Left, onDone, verdict, openTag, macTag, sealOf, openOf, streamOf, streamXorOf, macOf, macCheckOf}
+use Rattle.promises.specs.Session.{Session, Handed, Wrote, Opened, opening, live, sessionTag, sessionMac}
+use Rattle.promises.specs.Session as session
+use Rattle.promises.specs.Trace.{Ask, askSealPiece, askSealPieceInPlace, askOpenPiece, askMacPiece}
+use Rattle.promises.specs.Trace.{askSealFinish, askOpenFinish, askMacFinish, askMacFinishCheck, askAbort}
+use Rattle.promises.specs.AnyCall.{AnyCall, askSeal, askSealInPlace, askOpen, askOpenInPlace, askStream, askStreamXor, askMac, askMacCheck}
+use Rattle.promises.specs.AnyCall.{askSealStart, askOpenStart, askMacStart, on, Leaves, CallMet, rungsOf}
+use Rattle.promises.proofs.Ladder.{answer-onDone}
+
+-- ---- a promise that begins with a ladder
+
+module _ {A : Type 0} (answer : A → ℕ) (refused : ℕ → A) (done : A) (says : (a : ℕ) → answer (refused a) ≡ a) where
+  goes-on : (short long rest : ℕ) → Extends short long rest → answer done ≡ rest → answer (onDone short refused done) ≡ long
+  goes-on zero long rest e h = h ∙ sym (e .past refl)
+  goes-on (suc a) long rest e h = says (suc a) ∙ sym (e .refused (λ z. omega arith))
+
+  -- the verdict on a tag is the last rung
+  then-7 : (rs : List Rung) (t : Bool) → numbered rs ≡ true → answer done ≡ climb ((7, t) ∷ [])
+      → answer (onDone (climb rs) refused done) ≡ climb (rs ++ (7, t) ∷ [])
+  then-7 rs t n h = goes-on (climb rs) (climb (rs ++ (7, t) ∷ [])) (climb ((7, t) ∷ [])) (climb-extends rs ((7, t) ∷ []) n) h
+
+-- ---- the verdict on a tag is a rung
+
+verdict-climbs : (t : Bool) (msg ct out : List ℕ) → verdict t msg ct out .answer ≡ climb ((7, t) ∷ [])
+unfolding verdict
+verdict-climbs true msg ct out = refl
+verdict-climbs false msg ct out = refl
+
+module _ {S : Type 0} (C : Cipher S) where
+  open Cipher C using (size, machine)
+  open Machine machine using (rate)
+
+  released-climbs : (t : Bool) (s : Session S) (plain : List ℕ) → session.released C t s plain .answer ≡ climb ((7, t) ∷ [])
+  unfolding session.released
+  released-climbs true s plain = refl
+  released-climbs false s plain = refl
+
+  -- ---- each call
+
+  abbrev sealed : SealLeft → ℕ
+  sealed x = x .answer
+
+  abbrev left : Left → ℕ
+  left x = x .answer
+
+  abbrev handed : Handed S → ℕ
+  handed x = x .answer
+
+  abbrev wrote : Wrote S → ℕ
+  wrote x = x .answer
+
+  abbrev opened : Opened S → ℕ
+  opened x = x .answer
+
+  pub call-climbs : (c : AnyCall S) (a : ℕ) (l : Leaves c) → CallMet C c a l → a ≡ climb (rungsOf C c)
+  unfolding sealOf openOf streamOf streamXorOf macOf macCheckOf session.sealStart session.openStart session.macStart
+      session.sealPiece session.sealPieceInPlace session.openPiece session.macPiece session.sealFinish session.openFinish session.macFinish
+      session.macFinishCheck session.abort answers.oneShot answers.stream answers.mac answers.start answers.macStart answers.sealPiece answers.piece
+      answers.openPiece answers.finish answers.openFinish answers.abort
+  call-climbs (askSeal key nonce ad msg out tag) a l m = ap sealed m ∙ answer-onDone sealed _ _ (λ b. refl) refl _
+  call-climbs (askSealInPlace key nonce ad buf tag) a l m = ap sealed m ∙ answer-onDone sealed _ _ (λ b. refl) refl _
+  call-climbs (askOpen key nonce ad ct tag out) a l m =
+      ap left m ∙ then-7 left _ _ (λ b. refl) (rungsOf C (askSeal key nonce ad ct out tag)) (same tag (openTag C key nonce ad ct (length tag))) refl (verdict-climbs _ _ _ _)
+  call-climbs (askOpenInPlace key nonce ad buf tag) a l m =
+      ap left m ∙ then-7 left _ _ (λ b. refl) (rungsOf C (askSealInPlace key nonce ad buf tag)) (same tag (openTag C key nonce ad buf (length tag))) refl (verdict-climbs _ _ _ _)
+  call-climbs (askStream key nonce out) a l m = ap left m ∙ answer-onDone left _ _ (λ b. refl) refl _
+  call-climbs (askStreamXor key nonce buf) a l m = ap left m ∙ answer-onDone left _ _ (λ b. refl) refl _
+  call-climbs (askMac key nonce data′ tag) a l m = ap left m ∙ answer-onDone left _ _ (λ b. refl) refl _
+  call-climbs (askMacCheck key nonce data′ tag) a l m = m ∙ then-7 (λ b. b) _ _ (λ b. refl) (rungsOf C (askMac key nonce data′ tag)) (same tag (macTag C key nonce data′ (length tag))) refl refl
+  call-climbs (askSealStart key nonce ad n) a l m = ap handed m ∙ answer-onDone handed _ _ (λ b. refl) refl _
+  call-climbs (askOpenStart key nonce ad n room) a l m = ap handed m ∙ answer-onDone handed _ _ (λ b. refl) refl _
+  call-climbs (askMacStart key nonce n) a l m = ap handed m ∙ answer-onDone handed _ _ (λ b. refl) refl _
+  call-climbs (on s (askSealPiece msg out)) a l m = ap wrote m ∙ answer-onDone wrote _ _ (λ b. refl) refl _
+  call-climbs (on s (askSealPieceInPlace buf)) a l m = ap wrote m ∙ answer-onDone wrote _ _ (λ b. refl) refl _
+  call-climbs (on s (askOpenPiece ct plain)) a l m = ap wrote m ∙ answer-onDone wrote _ _ (λ b. refl) refl _
+  call-climbs (on s (askMacPiece data′)) a l m = ap handed m ∙ answer-onDone handed _ _ (λ b. refl) refl _
+  call-climbs (on s (askSealFinish tag)) a l m = ap wrote m ∙ answer-onDone wrote _ _ (λ b. refl) refl _
+  call-climbs (on s (askOpenFinish tag plain)) a l m =
+      ap opened m
+      ∙ then-7 opened _ _ (λ b. refl) (answers.openFinishRungs (live rate opening s) (length plain) (s .room) (length tag) (s .tagSize))
+      (same tag (sessionTag C s)) refl
+      (released-climbs _ _ _)
+  call-climbs (on s (askMacFinish tag)) a l m = ap wrote m ∙ answer-onDone wrote _ _ (λ b. refl) refl _
+  call-climbs (on s (askMacFinishCheck tag)) a l m = ap handed m ∙ then-7 handed _ _ (λ b. refl) (rungsOf C (on s (askMacFinish tag))) (same tag (sessionMac C s)) refl refl
+  call-climbs (on s (askAbort plain)) a l m = ap wrote m ∙ answer-onDone wrote _ _ (λ b. refl) refl _
+
+  -- no two rungs of one order have the same number
+  rungs-numbered : (c : AnyCall S) → numbered (rungsOf C c) ≡ true
+  rungs-numbered (askSeal key nonce ad msg out tag) = refl
+  rungs-numbered (askSealInPlace key nonce ad buf tag) = refl
+  rungs-numbered (askOpen key nonce ad ct tag out) = refl
+  rungs-numbered (askOpenInPlace key nonce ad buf tag) = refl
+  rungs-numbered (askStream key nonce out) = refl
+  rungs-numbered (askStreamXor key nonce buf) = refl
+  rungs-numbered (askMac key nonce data′ tag) = refl
+  rungs-numbered (askMacCheck key nonce data′ tag) = refl
+  rungs-numbered (askSealStart key nonce ad n) = refl
+  rungs-numbered (askOpenStart key nonce ad n room) = refl
+  rungs-numbered (askMacStart key nonce n) = refl
+  rungs-numbered (on s (askSealPiece msg out)) = refl
+  rungs-numbered (on s (askSealPieceInPlace buf)) = refl
+  rungs-numbered (on s (askOpenPiece ct plain)) = refl
+  rungs-numbered (on s (askMacPiece data′)) = refl
+  rungs-numbered (on s (askSealFinish tag)) = refl
+  rungs-numbered (on s (askOpenFinish tag plain)) = refl
+  rungs-numbered (on s (askMacFinish tag)) = refl
+  rungs-numbered (on s (askMacFinishCheck tag)) = refl
+  rungs-numbered (on s (askAbort plain)) = refl
+
+  pub first-applies : (c : AnyCall S) (a : ℕ) (l : Leaves c) → CallMet C c a l → (k : ℕ) → (a ≡ k) ↔ FirstApplies (rungsOf C c) k
+  first-applies c a l m k =
+      let e = call-climbs c a l m in
+      let x = climb-exactly (rungsOf C c) (rungs-numbered c) k in
+      ((λ h. x .0 (sym e ∙ h)), λ f. e ∙ x .1 f)
