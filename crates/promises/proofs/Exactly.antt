@@ -14,7 +14,7 @@ use Rattle.answers.specs.Answers as answers
 use Rattle.answers.proofs.Ladder.{Extends}
 use Rattle.answers.proofs.Ladders.{numbered, climb-exactly, climb-extends}
 use Rattle.lent.specs.Lent.{same}
-use Rattle.promises.specs.Cipher.{Cipher}
+use Rattle.promises.specs.Cipher.{Cipher, Mac}
 use Rattle.promises.specs.OneShot.{SealLeft, Left, onDone, verdict, openTag, macTag, sealOf, openOf, streamOf, streamXorOf, macOf, macCheckOf}
 use Rattle.promises.specs.Session.{Session, Handed, Wrote, Opened, opening, live, sessionTag, sessionMac}
 use Rattle.promises.specs.Session as session
@@ -43,7 +43,7 @@ unfolding verdict
 verdict-climbs true msg ct out = refl
 verdict-climbs false msg ct out = refl
 
-module _ {S : Type 0} (C : Cipher S) where
+module _ {S : Type 0} (C : Cipher S) (M : Mac S) where
   open Cipher C using (size, machine)
   open Machine machine using (rate)
 
@@ -69,7 +69,7 @@ module _ {S : Type 0} (C : Cipher S) where
   abbrev opened : Opened S → ℕ
   opened x = x .answer
 
-  pub call-climbs : (c : AnyCall S) (a : ℕ) (l : Leaves c) → CallMet C c a l → a ≡ climb (rungsOf C c)
+  pub call-climbs : (c : AnyCall S) (a : ℕ) (l : Leaves c) → CallMet C M c a l → a ≡ climb (rungsOf C M c)
   unfolding sealOf openOf streamOf streamXorOf macOf macCheckOf session.sealStart session.openStart session.macStart
       session.sealPiece session.sealPieceInPlace session.openPiece session.macPiece session.sealFinish session.openFinish session.macFinish
       session.macFinishCheck session.abort answers.oneShot answers.stream answers.mac answers.start answers.macStart answers.sealPiece answers.piece
@@ -77,13 +77,13 @@ module _ {S : Type 0} (C : Cipher S) where
   call-climbs (askSeal key nonce ad msg out tag) a l m = ap sealed m ∙ answer-onDone sealed _ _ (λ b. refl) refl _
   call-climbs (askSealInPlace key nonce ad buf tag) a l m = ap sealed m ∙ answer-onDone sealed _ _ (λ b. refl) refl _
   call-climbs (askOpen key nonce ad ct tag out) a l m =
-      ap left m ∙ then-7 left _ _ (λ b. refl) (rungsOf C (askSeal key nonce ad ct out tag)) (same tag (openTag C key nonce ad ct (length tag))) refl (verdict-climbs _ _ _ _)
+      ap left m ∙ then-7 left _ _ (λ b. refl) (rungsOf C M (askSeal key nonce ad ct out tag)) (same tag (openTag C key nonce ad ct (length tag))) refl (verdict-climbs _ _ _ _)
   call-climbs (askOpenInPlace key nonce ad buf tag) a l m =
-      ap left m ∙ then-7 left _ _ (λ b. refl) (rungsOf C (askSealInPlace key nonce ad buf tag)) (same tag (openTag C key nonce ad buf (length tag))) refl (verdict-climbs _ _ _ _)
+      ap left m ∙ then-7 left _ _ (λ b. refl) (rungsOf C M (askSealInPlace key nonce ad buf tag)) (same tag (openTag C key nonce ad buf (length tag))) refl (verdict-climbs _ _ _ _)
   call-climbs (askStream key nonce out) a l m = ap left m ∙ answer-onDone left _ _ (λ b. refl) refl _
   call-climbs (askStreamXor key nonce buf) a l m = ap left m ∙ answer-onDone left _ _ (λ b. refl) refl _
   call-climbs (askMac key nonce data′ tag) a l m = ap left m ∙ answer-onDone left _ _ (λ b. refl) refl _
-  call-climbs (askMacCheck key nonce data′ tag) a l m = m ∙ then-7 (λ b. b) _ _ (λ b. refl) (rungsOf C (askMac key nonce data′ tag)) (same tag (macTag C key nonce data′ (length tag))) refl refl
+  call-climbs (askMacCheck key nonce data′ tag) a l m = m ∙ then-7 (λ b. b) _ _ (λ b. refl) (rungsOf C M (askMac key nonce data′ tag)) (same tag (macTag C M key nonce data′ (length tag))) refl refl
   call-climbs (askSealStart key nonce ad n) a l m = ap handed m ∙ answer-onDone handed _ _ (λ b. refl) refl _
   call-climbs (askOpenStart key nonce ad n room) a l m = ap handed m ∙ answer-onDone handed _ _ (λ b. refl) refl _
   call-climbs (askMacStart key nonce n) a l m = ap handed m ∙ answer-onDone handed _ _ (λ b. refl) refl _
@@ -98,11 +98,11 @@ module _ {S : Type 0} (C : Cipher S) where
       (same tag (sessionTag C s)) refl
       (released-climbs _ _ _)
   call-climbs (on s (askMacFinish tag)) a l m = ap wrote m ∙ answer-onDone wrote _ _ (λ b. refl) refl _
-  call-climbs (on s (askMacFinishCheck tag)) a l m = ap handed m ∙ then-7 handed _ _ (λ b. refl) (rungsOf C (on s (askMacFinish tag))) (same tag (sessionMac C s)) refl refl
+  call-climbs (on s (askMacFinishCheck tag)) a l m = ap handed m ∙ then-7 handed _ _ (λ b. refl) (rungsOf C M (on s (askMacFinish tag))) (same tag (sessionMac C M s)) refl refl
   call-climbs (on s (askAbort plain)) a l m = ap wrote m ∙ answer-onDone wrote _ _ (λ b. refl) refl _
 
   -- no two rungs of one order have the same number
-  rungs-numbered : (c : AnyCall S) → numbered (rungsOf C c) ≡ true
+  rungs-numbered : (c : AnyCall S) → numbered (rungsOf C M c) ≡ true
   rungs-numbered (askSeal key nonce ad msg out tag) = refl
   rungs-numbered (askSealInPlace key nonce ad buf tag) = refl
   rungs-numbered (askOpen key nonce ad ct tag out) = refl
@@ -124,8 +124,8 @@ module _ {S : Type 0} (C : Cipher S) where
   rungs-numbered (on s (askMacFinishCheck tag)) = refl
   rungs-numbered (on s (askAbort plain)) = refl
 
-  pub first-applies : (c : AnyCall S) (a : ℕ) (l : Leaves c) → CallMet C c a l → (k : ℕ) → (a ≡ k) ↔ FirstApplies (rungsOf C c) k
+  pub first-applies : (c : AnyCall S) (a : ℕ) (l : Leaves c) → CallMet C M c a l → (k : ℕ) → (a ≡ k) ↔ FirstApplies (rungsOf C M c) k
   first-applies c a l m k =
       let e = call-climbs c a l m in
-      let x = climb-exactly (rungsOf C c) (rungs-numbered c) k in
+      let x = climb-exactly (rungsOf C M c) (rungs-numbered c) k in
       ((λ h. x .0 (sym e ∙ h)), λ f. e ∙ x .1 f)

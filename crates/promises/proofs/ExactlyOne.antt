@@ -3,7 +3,7 @@
 use Prim.Native.Nat.{ℕ}
 use mathlib.Core.Path.{_≡_, refl, sym, ap, _∙_}
 use mathlib.Core.List.{List}
-use Rattle.promises.specs.Cipher.{Cipher}
+use Rattle.promises.specs.Cipher.{Cipher, Mac}
 use Rattle.promises.specs.OneShot.{SealLeft, Left, sealOf, sealInPlaceOf, openOf, openInPlaceOf, streamOf, streamXorOf, macOf, macCheckOf}
 use Rattle.promises.specs.Session.{Session, Handed, Wrote, Opened}
 use Rattle.promises.specs.Session as session
@@ -12,7 +12,7 @@ use Rattle.promises.specs.Trace.{askSealFinish, askOpenFinish, askMacFin
 use Rattle.promises.specs.AnyCall.{AnyCall, askSeal, askSealInPlace, askOpen, askOpenInPlace, askStream, askStreamXor, askMac, askMacCheck}
 use Rattle.promises.specs.AnyCall.{askSealStart, askOpenStart, askMacStart, on, Leaves, CallMet}
 
-module _ {S : Type 0} (C : Cipher S) where
+module _ {S : Type 0} (C : Cipher S) (M : Mac S) where
   -- what the call answers and leaves
   abbrev promised : (c : AnyCall S) → ℕ × Leaves c
   promised (askSeal key nonce ad msg out tag) = let r = sealOf C key nonce ad msg out tag in (r .answer, (r .out, r .tag))
@@ -21,8 +21,8 @@ module _ {S : Type 0} (C : Cipher S) where
   promised (askOpenInPlace key nonce ad buf tag) = let r = openInPlaceOf C key nonce ad buf tag in (r .answer, r .out)
   promised (askStream key nonce out) = let r = streamOf C key nonce out in (r .answer, r .out)
   promised (askStreamXor key nonce buf) = let r = streamXorOf C key nonce buf in (r .answer, r .out)
-  promised (askMac key nonce data′ tag) = let r = macOf C key nonce data′ tag in (r .answer, r .out)
-  promised (askMacCheck key nonce data′ tag) = let r = macCheckOf C key nonce data′ tag in (r, tt)
+  promised (askMac key nonce data′ tag) = let r = macOf C M key nonce data′ tag in (r .answer, r .out)
+  promised (askMacCheck key nonce data′ tag) = let r = macCheckOf C M key nonce data′ tag in (r, tt)
   promised (askSealStart key nonce ad n) = let r = session.sealStart C key nonce ad n in (r .answer, r .session)
   promised (askOpenStart key nonce ad n room) = let r = session.openStart C key nonce ad n room in (r .answer, r .session)
   promised (askMacStart key nonce n) = let r = session.macStart C key nonce n in (r .answer, r .session)
@@ -32,11 +32,11 @@ module _ {S : Type 0} (C : Cipher S) where
   promised (on s (askMacPiece data′)) = let r = session.macPiece C s data′ in (r .answer, r .session)
   promised (on s (askSealFinish tag)) = let r = session.sealFinish C s tag in (r .answer, (r .session, r .out))
   promised (on s (askOpenFinish tag plain)) = let r = session.openFinish C s tag plain in (r .answer, (r .count, r .session, r .out))
-  promised (on s (askMacFinish tag)) = let r = session.macFinish C s tag in (r .answer, (r .session, r .out))
-  promised (on s (askMacFinishCheck tag)) = let r = session.macFinishCheck C s tag in (r .answer, r .session)
+  promised (on s (askMacFinish tag)) = let r = session.macFinish C M s tag in (r .answer, (r .session, r .out))
+  promised (on s (askMacFinishCheck tag)) = let r = session.macFinishCheck C M s tag in (r .answer, r .session)
   promised (on s (askAbort plain)) = let r = session.abort C s plain in (r .answer, (r .session, r .out))
 
-  promised-met : (c : AnyCall S) → CallMet C c (promised c .0) (promised c .1)
+  promised-met : (c : AnyCall S) → CallMet C M c (promised c .0) (promised c .1)
   promised-met (askSeal key nonce ad msg out tag) = refl
   promised-met (askSealInPlace key nonce ad buf tag) = refl
   promised-met (askOpen key nonce ad ct tag out) = refl
@@ -58,7 +58,7 @@ module _ {S : Type 0} (C : Cipher S) where
   promised-met (on s (askMacFinishCheck tag)) = refl
   promised-met (on s (askAbort plain)) = refl
 
-  the-promised : (c : AnyCall S) (a : ℕ) (l : Leaves c) → CallMet C c a l → _≡_ {A = ℕ × Leaves c} (a, l) (promised c)
+  the-promised : (c : AnyCall S) (a : ℕ) (l : Leaves c) → CallMet C M c a l → _≡_ {A = ℕ × Leaves c} (a, l) (promised c)
   the-promised (askSeal key nonce ad msg out tag) a l m = ap (λ (r : SealLeft). (r .answer, (r .out, r .tag))) m
   the-promised (askSealInPlace key nonce ad buf tag) a l m = ap (λ (r : SealLeft). (r .answer, (r .out, r .tag))) m
   the-promised (askOpen key nonce ad ct tag out) a l m = ap (λ (r : Left). (r .answer, r .out)) m
@@ -80,10 +80,10 @@ module _ {S : Type 0} (C : Cipher S) where
   the-promised (on s (askMacFinishCheck tag)) a l m = ap (λ (r : Handed S). (r .answer, r .session)) m
   the-promised (on s (askAbort plain)) a l m = ap (λ (r : Wrote S). (r .answer, (r .session, r .out))) m
 
-  pub call-answered : (c : AnyCall S) → (a : ℕ) × (l : Leaves c) × CallMet C c a l
+  pub call-answered : (c : AnyCall S) → (a : ℕ) × (l : Leaves c) × CallMet C M c a l
   call-answered c = (promised c .0, promised c .1, promised-met c)
 
-  pub call-one-answer : (c : AnyCall S) (a a₂ : ℕ) (l l₂ : Leaves c) → CallMet C c a l → CallMet C c a₂ l₂ → (a ≡ a₂) × (l ≡ l₂)
+  pub call-one-answer : (c : AnyCall S) (a a₂ : ℕ) (l l₂ : Leaves c) → CallMet C M c a l → CallMet C M c a₂ l₂ → (a ≡ a₂) × (l ≡ l₂)
   call-one-answer c a a₂ l l₂ m k =
       let same : _≡_ {A = ℕ × Leaves c} (a, l) (a₂, l₂) = the-promised c a l m ∙ sym (the-promised c a₂ l₂ k) in
       (ap (λ (o : ℕ × Leaves c). o .0) same, ap (λ (o : ℕ × Leaves c). o .1) same)

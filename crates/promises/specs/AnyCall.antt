@@ -10,7 +10,7 @@ use Rattle.machine.specs.Machine.{Machine}
 use Rattle.answers.specs.Answers.{Rung, oneShotRungs, streamRungs, macRungs, startRungs, macStartRungs}
 use Rattle.answers.specs.Answers.{sealPieceRungs, pieceRungs, openPieceRungs, finishRungs, openFinishRungs, abortRungs}
 use Rattle.lent.specs.Lent.{same}
-use Rattle.promises.specs.Cipher.{Cipher}
+use Rattle.promises.specs.Cipher.{Cipher, Mac}
 use Rattle.promises.specs.OneShot.{openTag, macTag}
 use Rattle.promises.specs.Session.{Session, sealing, opening, macing, ifOpening, live, abortLive, sessionTag, sessionMac}
 use Rattle.promises.specs.Met.{SealMet, SealInPlaceMet, OpenMet, OpenInPlaceMet, StreamMet, StreamXorMet, MacMet, MacCheckMet}
@@ -58,7 +58,7 @@ Leaves {S} (on s (askMacFinish tag)) = Session S × List ℕ
 Leaves {S} (on s (askMacFinishCheck tag)) = Session S
 Leaves {S} (on s (askAbort plain)) = Session S × List ℕ
 
-module _ {S : Type 0} (C : Cipher S) where
+module _ {S : Type 0} (C : Cipher S) (M : Mac S) where
   open Cipher C using (size, machine)
   open Machine machine using (rate)
 
@@ -70,8 +70,8 @@ module _ {S : Type 0} (C : Cipher S) where
   CallMet (askOpenInPlace key nonce ad buf tag) a buf′ = OpenInPlaceMet C key nonce ad buf tag a buf′
   CallMet (askStream key nonce out) a out′ = StreamMet C key nonce out a out′
   CallMet (askStreamXor key nonce buf) a buf′ = StreamXorMet C key nonce buf a buf′
-  CallMet (askMac key nonce data′ tag) a tag′ = MacMet C key nonce data′ tag a tag′
-  CallMet (askMacCheck key nonce data′ tag) a l = MacCheckMet C key nonce data′ tag a
+  CallMet (askMac key nonce data′ tag) a tag′ = MacMet C M key nonce data′ tag a tag′
+  CallMet (askMacCheck key nonce data′ tag) a l = MacCheckMet C M key nonce data′ tag a
   CallMet (askSealStart key nonce ad size) a s′ = SealStartMet C key nonce ad size a s′
   CallMet (askOpenStart key nonce ad size room) a s′ = OpenStartMet C key nonce ad size room a s′
   CallMet (askMacStart key nonce size) a s′ = MacStartMet C key nonce size a s′
@@ -81,8 +81,8 @@ module _ {S : Type 0} (C : Cipher S) where
   CallMet (on s (askMacPiece data′)) a s′ = MacPieceMet C s data′ a s′
   CallMet (on s (askSealFinish tag)) a (s′, tag′) = SealFinishMet C s tag a s′ tag′
   CallMet (on s (askOpenFinish tag plain)) a (n, s′, plain′) = OpenFinishMet C s tag plain a n s′ plain′
-  CallMet (on s (askMacFinish tag)) a (s′, tag′) = MacFinishMet C s tag a s′ tag′
-  CallMet (on s (askMacFinishCheck tag)) a s′ = MacFinishCheckMet C s tag a s′
+  CallMet (on s (askMacFinish tag)) a (s′, tag′) = MacFinishMet C M s tag a s′ tag′
+  CallMet (on s (askMacFinishCheck tag)) a s′ = MacFinishCheckMet C M s tag a s′
   CallMet (on s (askAbort plain)) a (s′, plain′) = AbortMet C s plain a s′ plain′
 
   -- its order of refusals. Where a call is lent a tag to check, 7 comes last: it is the tag that is due
@@ -102,7 +102,7 @@ module _ {S : Type 0} (C : Cipher S) where
   -- MAC: 1, 2, 3, 5, 7
   rungsOf (askMac key nonce data′ tag) = macRungs size (length tag) (length key) (length nonce) (length data′)
   rungsOf (askMacCheck key nonce data′ tag) =
-      macRungs size (length tag) (length key) (length nonce) (length data′) ++ (7, same tag (macTag C key nonce data′ (length tag))) ∷ []
+      macRungs size (length tag) (length key) (length nonce) (length data′) ++ (7, same tag (macTag C M key nonce data′ (length tag))) ∷ []
   -- session start: 1, 2, 3, 4; MAC start: 1, 2, 3
   rungsOf (askSealStart key nonce ad n) = startRungs size n (length key) (length nonce) (length ad)
   rungsOf (askOpenStart key nonce ad n room) = startRungs size n (length key) (length nonce) (length ad)
@@ -118,6 +118,6 @@ module _ {S : Type 0} (C : Cipher S) where
   rungsOf (on s (askOpenFinish tag plain)) =
       openFinishRungs (live rate opening s) (length plain) (s .room) (length tag) (s .tagSize) ++ (7, same tag (sessionTag C s)) ∷ []
   rungsOf (on s (askMacFinish tag)) = finishRungs (live rate macing s) (length tag) (s .tagSize)
-  rungsOf (on s (askMacFinishCheck tag)) = finishRungs (live rate macing s) (length tag) (s .tagSize) ++ (7, same tag (sessionMac C s)) ∷ []
+  rungsOf (on s (askMacFinishCheck tag)) = finishRungs (live rate macing s) (length tag) (s .tagSize) ++ (7, same tag (sessionMac C M s)) ∷ []
   -- abort: 8, then 10 for an opener
   rungsOf (on s (askAbort plain)) = abortRungs (abortLive C s) (ifOpening s (eqb (length plain) (s .room)) true)
