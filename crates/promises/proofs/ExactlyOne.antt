@@ -7,14 +7,14 @@ use Rattle.promises.specs.Cipher.{Cipher, Mac}
 use Rattle.promises.specs.OneShot.{SealLeft, Left, sealOf, sealInPlaceOf, openOf, openInPlaceOf, streamOf, streamXorOf, macOf, macCheckOf}
 use Rattle.promises.specs.Session.{Session, Handed, Wrote, Opened}
 use Rattle.promises.specs.Session as session
-use Rattle.promises.specs.Trace.{Ask, askSealPiece, askSealPieceInPlace, askOpenPiece, askMacPiece}
+use Rattle.promises.specs.Trace.{askSealPiece, askSealPieceInPlace, askOpenPiece, askMacPiece}
 use Rattle.promises.specs.Trace.{askSealFinish, askOpenFinish, askMacFinish, askMacFinishCheck, askAbort}
 use Rattle.promises.specs.AnyCall.{AnyCall, askSeal, askSealInPlace, askOpen, askOpenInPlace, askStream, askStreamXor, askMac, askMacCheck}
 use Rattle.promises.specs.AnyCall.{askSealStart, askOpenStart, askMacStart, on, Leaves, CallMet}
 
 module _ {S : Type 0} (C : Cipher S) (M : Mac S) where
-  -- what the call answers and leaves
-  abbrev promised : (c : AnyCall S) → ℕ × Leaves c
+  -- what a call answers, and what it leaves beside that
+  abbrev pub promised : (c : AnyCall S) → ℕ × Leaves c
   promised (askSeal key nonce ad msg out tag) = let r = sealOf C key nonce ad msg out tag in (r .answer, (r .out, r .tag))
   promised (askSealInPlace key nonce ad buf tag) = let r = sealInPlaceOf C key nonce ad buf tag in (r .answer, (r .out, r .tag))
   promised (askOpen key nonce ad ct tag out) = let r = openOf C key nonce ad ct tag out in (r .answer, r .out)
@@ -58,7 +58,7 @@ module _ {S : Type 0} (C : Cipher S) (M : Mac S) where
   promised-met (on s (askMacFinishCheck tag)) = refl
   promised-met (on s (askAbort plain)) = refl
 
-  the-promised : (c : AnyCall S) (a : ℕ) (l : Leaves c) → CallMet C M c a l → _≡_ {A = ℕ × Leaves c} (a, l) (promised c)
+  pub the-promised : (c : AnyCall S) (a : ℕ) (l : Leaves c) → CallMet C M c a l → _≡_ {A = ℕ × Leaves c} (a, l) (promised c)
   the-promised (askSeal key nonce ad msg out tag) a l m = ap (λ (r : SealLeft). (r .answer, (r .out, r .tag))) m
   the-promised (askSealInPlace key nonce ad buf tag) a l m = ap (λ (r : SealLeft). (r .answer, (r .out, r .tag))) m
   the-promised (askOpen key nonce ad ct tag out) a l m = ap (λ (r : Left). (r .answer, r .out)) m

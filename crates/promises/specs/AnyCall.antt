@@ -12,7 +12,7 @@ use Rattle.answers.specs.Answers.{sealPieceRungs, pieceRungs, openPieceRungs, f
 use Rattle.lent.specs.Lent.{same}
 use Rattle.promises.specs.Cipher.{Cipher, Mac}
 use Rattle.promises.specs.OneShot.{openTag, macTag}
-use Rattle.promises.specs.Session.{Session, sealing, opening, macing, ifOpening, live, abortLive, sessionTag, sessionMac}
+use Rattle.promises.specs.Session.{Session, ended, sealing, opening, macing, ifOpening, live, abortLive, sessionTag, sessionMac}
 use Rattle.promises.specs.Met.{SealMet, SealInPlaceMet, OpenMet, OpenInPlaceMet, StreamMet, StreamXorMet, MacMet, MacCheckMet}
 use Rattle.promises.specs.Met.{SealStartMet, OpenStartMet, MacStartMet}
 use Rattle.promises.specs.Met.{SealPieceMet, SealPieceInPlaceMet, OpenPieceMet, MacPieceMet}
@@ -121,3 +121,26 @@ module _ {S : Type 0} (C : Cipher S) (M : Mac S) where
   rungsOf (on s (askMacFinishCheck tag)) = finishRungs (live rate macing s) (length tag) (s .tagSize) ++ (7, same tag (sessionMac C M s)) ∷ []
   -- abort: 8, then 10 for an opener
   rungsOf (on s (askAbort plain)) = abortRungs (abortLive C s) (ifOpening s (eqb (length plain) (s .room)) true)
+
+  -- what a refusal leaves, but 7: what the call was lent. A start hands back a session that is over, and a number is 0
+  abbrev pub untouched : (c : AnyCall S) → Leaves c
+  untouched (askSeal key nonce ad msg out tag) = (out, tag)
+  untouched (askSealInPlace key nonce ad buf tag) = (buf, tag)
+  untouched (askOpen key nonce ad ct tag out) = out
+  untouched (askOpenInPlace key nonce ad buf tag) = buf
+  untouched (askStream key nonce out) = out
+  untouched (askStreamXor key nonce buf) = buf
+  untouched (askMac key nonce data′ tag) = tag
+  untouched (askMacCheck key nonce data′ tag) = tt
+  untouched (askSealStart key nonce ad n) = ended C
+  untouched (askOpenStart key nonce ad n room) = ended C
+  untouched (askMacStart key nonce n) = ended C
+  untouched (on s (askSealPiece msg out)) = (s, out)
+  untouched (on s (askSealPieceInPlace buf)) = (s, buf)
+  untouched (on s (askOpenPiece ct plain)) = (s, plain)
+  untouched (on s (askMacPiece data′)) = s
+  untouched (on s (askSealFinish tag)) = (s, tag)
+  untouched (on s (askOpenFinish tag plain)) = (0, s, plain)
+  untouched (on s (askMacFinish tag)) = (s, tag)
+  untouched (on s (askMacFinishCheck tag)) = s
+  untouched (on s (askAbort plain)) = (s, plain)
