@@ -17,7 +17,7 @@ use Rattle.promises.specs.Met.{SealMet, SealInPlaceMet, OpenMet, OpenInP
 use Rattle.promises.specs.Met.{SealStartMet, OpenStartMet, MacStartMet}
 use Rattle.promises.specs.Met.{SealPieceMet, SealPieceInPlaceMet, OpenPieceMet, MacPieceMet}
 use Rattle.promises.specs.Met.{SealFinishMet, OpenFinishMet, MacFinishMet, MacFinishCheckMet, AbortMet}
-use Rattle.promises.specs.Trace.{Ask, askSealPiece, askSealPieceInPlace, askOpenPiece, askMacPiece}
+use Rattle.promises.specs.Trace.{Calls, none, _▸_, asked, Ask, askSealPiece, askSealPieceInPlace, askOpenPiece, askMacPiece}
 use Rattle.promises.specs.Trace.{askSealFinish, askOpenFinish, askMacFinish, askMacFinishCheck, askAbort}
 
 -- what a call is lent: the eight one-shots, the three starts, and the nine calls on a session
@@ -57,6 +57,11 @@ Leaves {S} (on s (askOpenFinish tag plain)) = ℕ × Session S × List ℕ
 Leaves {S} (on s (askMacFinish tag)) = Session S × List ℕ
 Leaves {S} (on s (askMacFinishCheck tag)) = Session S
 Leaves {S} (on s (askAbort plain)) = Session S × List ℕ
+
+-- what the calls of a trace were lent, in their order
+abbrev pub asks : Calls → List Ask
+asks none = []
+asks (cs ▸ c) = asks cs ++ asked c ∷ []
 
 module _ {S : Type 0} (C : Cipher S) (M : Mac S) where
   open Cipher C using (size, machine)
