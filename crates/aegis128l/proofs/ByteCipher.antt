@@ -6,7 +6,8 @@ use mathlib.Core.List.{List, [], _∷_, _++_}
 use native.Mathlib.Nat.{mod-lt}
 use lib.Dec.{eqb, lit<}
 use lib.ListN.{getD}
-use Rattle.machine.proofs.ByteLists.{Bytes, byte-at, bytes-append, xor-byte, and-byte}
+use Rattle.machine.specs.Bytes.{Bytes}
+use Rattle.machine.proofs.ByteLists.{byte-at, bytes-append, xor-byte, and-byte}
 use Rattle.aes.specs.Round.{block, blockAt, at, columnsOf, subBytes, shiftRows, mixColumns, addRoundKey, roundOf, xorOf, andOf}
 use Rattle.aes.proofs.ByteRounds.{round-byte}
 use Rattle.promises.proofs.ByteTexts.{Bytewise}

@@ -1,15 +1,13 @@
 -- The demands at AEGIS-128L, and every trace of the code is one that they speak of.
 -- Assumes nothing.
-use Prim.Native.Nat.{ℕ, _≤_}
-use mathlib.Core.Path.{_≡_}
-use mathlib.Core.Logic.{_↔_}
+use Prim.Native.Nat.{ℕ}
 use mathlib.Core.List.{List}
-use lib.ListN.{length}
-use Rattle.machine.proofs.ByteLists.{Bytes}
-use Rattle.promises.specs.Met.{OpenMet}
+use Rattle.promises.specs.Allowed.{Allowed}
 use Rattle.promises.specs.Trace.{Calls, Trace, at-start, made, SealSession, OpenSession}
-use Rattle.promises.specs.Demands.{Demand1, Demand3, Fixed, SealedAs}
-use Rattle.promises.proofs.Demands.{demand-1, demand-3, byte-accepts, byte-forms}
+use Rattle.promises.specs.Demands.{Demand1, Demand2, Demand3}
+use Rattle.promises.proofs.Demand1.{demand-1}
+use Rattle.promises.proofs.Demand2.{demand-2}
+use Rattle.promises.proofs.Demand3.{demand-3}
 use Rattle.aegis128l.specs.Cipher.{aegis128l, aegis128lMac}
 use Rattle.aegis128l.proofs.ByteCipher.{aegis128l-bytes}
 use Rattle.session.specs.declared.Session.{Session}
@@ -42,15 +40,8 @@ code-opens t = record {
 pub aegis128l-demand-1 : Demand1 aegis128l aegis128lMac
 aegis128l-demand-1 = demand-1 aegis128l aegis128lMac
 
-pub aegis128l-demand-3 : (key nonce ad : List ℕ) (n : ℕ) → Fixed aegis128l key nonce ad n → Demand3 aegis128l aegis128lMac key nonce ad n
-aegis128l-demand-3 = demand-3 aegis128l aegis128lMac
+pub aegis128l-demand-2 : Demand2 aegis128l aegis128lMac
+aegis128l-demand-2 = demand-2 aegis128l aegis128lMac
 
--- of bytes: the message that opening accepts is one of numbers below 256
-pub accepts-of-bytes : (key nonce ad : List ℕ) (n : ℕ) → Fixed aegis128l key nonce ad n → Bytes key → Bytes nonce → Bytes ad
-    → (ct tag out : List ℕ) (r : ℕ) (out′ : List ℕ) → OpenMet aegis128l key nonce ad ct tag out r out′ → length tag ≡ n → length ct ≤ length out
-    → Bytes ct → (r ≡ 0) ↔ ((msg : List ℕ) × Bytes msg × SealedAs aegis128l key nonce ad n msg ct tag)
-accepts-of-bytes key nonce ad n f = byte-accepts aegis128l aegis128lMac key nonce ad n f aegis128l-bytes
-
-pub forms-of-bytes : (key nonce ad : List ℕ) (n : ℕ) → Fixed aegis128l key nonce ad n → Bytes key → Bytes nonce → Bytes ad
-    → (msg ct tag : List ℕ) → SealedAs aegis128l key nonce ad n msg ct tag → Bytes msg → Bytes ct × Bytes tag
-forms-of-bytes key nonce ad n f = byte-forms aegis128l aegis128lMac key nonce ad n f aegis128l-bytes
+pub aegis128l-demand-3 : (key nonce ad : List ℕ) (n : ℕ) → Allowed aegis128l key nonce ad n → Demand3 aegis128l aegis128lMac key nonce ad n
+aegis128l-demand-3 key nonce ad n fixed = demand-3 aegis128l aegis128lMac key nonce ad n fixed aegis128l-bytes

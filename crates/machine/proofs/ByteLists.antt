@@ -7,14 +7,10 @@ use mathlib.Core.List.{List, [], _∷_, _++_}
 use lib.Dec.{eqb, lit<}
 use lib.ListN.{length, getD, set, take, replicate}
 use lib.Bits.{bitXor, bitAnd, xor-lt, and-lt}
-use Rattle.machine.specs.Bytes.{zeros, padTo}
+use Rattle.machine.specs.Bytes.{zeros, padTo, Bytes}
 use Rattle.machine.specs.Machine.{Machine, Core, Mode, enc, dec, plain, start, current, key, code, settled, next, after, out, close}
 use Rattle.machine.specs.Draft.{draftAbsorb, draftEncrypt, draftDecrypt, draftDecryptState}
 use Rattle.machine.proofs.Draft as draft
-
-abbrev pub Bytes : List ℕ → Type 0
-Bytes [] = Unit {0}
-Bytes (x ∷ xs) = (x < 256) × Bytes xs
 
 pub xor-byte : (a b : ℕ) → a < 256 → b < 256 → bitXor a b < 256
 xor-byte a b = xor-lt 8 a b

@@ -6,7 +6,8 @@ use mathlib.Core.Path.{_≡_, subst}
 use mathlib.Core.List.{List}
 use lib.ListN.{length}
 use Rattle.machine.specs.Machine.{Machine}
-use Rattle.machine.proofs.ByteLists.{Bytes, absorb-bytes, encrypt-bytes, decrypt-bytes, decrypt-state}
+use Rattle.machine.specs.Bytes.{Bytes}
+use Rattle.machine.proofs.ByteLists.{absorb-bytes, encrypt-bytes, decrypt-bytes, decrypt-state}
 use Rattle.promises.specs.Cipher.{Cipher}
 use Rattle.promises.specs.OneShot.{keyed, ciphertext, plaintext, sealTag, openTag}
 use Rattle.promises.proofs.Forms.{SealedForm, form-plaintext}

@@ -10,10 +10,12 @@ use native.Mathlib.Omega.{arith}
 use lib.Dec.{eqb, lit≤}
 use lib.ListN.{length}
 use borrow.Author.Tests.{eq-eqb, ne-eqb}
+use Rattle.machine.specs.Bytes.{zeros}
 use Rattle.machine.specs.Machine.{Machine}
 use Rattle.answers.proofs.Answers.{ok-abort}
 use Rattle.promises.specs.Cipher.{Cipher, Mac}
-use Rattle.promises.specs.Session.{sealing, opening, macing, pick, erased, ended, live, Session, Wrote}
+use Rattle.promises.specs.OneShot.{onto}
+use Rattle.promises.specs.Session.{sealing, opening, macing, pick, ended, live, Session, Wrote}
 use Rattle.promises.specs.Session as session
 use Rattle.promises.specs.Trace.{abort, Calls, _▸_, Going, SealSession, OpenSession, MacSession}
 use Rattle.promises.proofs.Ladder.{does}
@@ -39,7 +41,7 @@ module _ {S : Type 0} (C : Cipher S) where
         is-live = facts-abortLive C s (le-trans (le-of-eq (f .kind-is)) low) (f .formed);
         is-lent = ap (λ (t : Bool). pick t (eqb (length plain) (s .room)) true) other;
       }) in
-      sym (does _ 0 _ _ _ (sym goes) refl (λ i. record { answer = 0; session = ended C; out = pick (sym other i) (erased (s .written) plain) plain }))
+      sym (does _ 0 _ _ _ (sym goes) refl (λ i. record { answer = 0; session = ended C; out = pick (sym other i) (onto (zeros (s .written)) plain) plain }))
 
   pub abort-opening : (s : Session S) → live rate opening s ≡ true → (plain : List ℕ) → length plain ≡ s .room → session.abort C s plain .answer ≡ 0
   unfolding session.abort

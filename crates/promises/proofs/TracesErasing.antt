@@ -8,6 +8,7 @@ use mathlib.Core.List.{List, [], _∷_, _++_, append-nil}
 use lib.ListN.{length, drop, getD}
 use Rattle.machine.specs.Bytes.{zeros}
 use Rattle.promises.specs.Cipher.{Cipher, Mac}
+use Rattle.promises.specs.OneShot.{onto}
 use Rattle.promises.specs.Session.{Session, ended, openStart}
 use Rattle.promises.specs.Run.{Call, World, begun, step, hands, openRun}
 use Rattle.promises.specs.Run as call
@@ -87,7 +88,7 @@ module _ {S : Type 0} (C : Cipher S) (M : Mac S) (key nonce ad : List ℕ) (n : 
 
   pub record Overwritten (wrote : ℕ) (p : List ℕ) : Type 0 where
     pub in-buffer : wrote ≤ length p₀
-    pub buffer-is : p ≡ zeros wrote ++ drop wrote p₀
+    pub buffer-is : p ≡ onto (zeros wrote) p₀
     pub same-length : length p ≡ length p₀
     pub written-bytes : (i : ℕ) → i < wrote → getD p i 0 ≡ 0
     pub other-bytes : (i : ℕ) → wrote ≤ i → getD p i 0 ≡ getD p₀ i 0

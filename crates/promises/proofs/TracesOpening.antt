@@ -16,7 +16,7 @@ use Rattle.answers.specs.Answers as answers
 use Rattle.answers.proofs.Answers.{StartOk, start-ok, ok-start, open-finish-ok}
 use Rattle.promises.specs.Cipher.{Cipher, Mac}
 use Rattle.promises.specs.OneShot.{Left, onto, ciphertext, plaintext, sealTag, openOf}
-use Rattle.promises.specs.Session.{opening, Session, Handed, Wrote, Opened, live, ended, erased, openStart}
+use Rattle.promises.specs.Session.{opening, Session, Handed, Wrote, Opened, live, ended, openStart}
 use Rattle.promises.specs.Session as session
 use Rattle.promises.specs.Met.{OpenMet}
 use Rattle.promises.specs.Run.{Call, World, Result, begun, wrote, counted, step, hands, run, openRun}

@@ -9,16 +9,19 @@ use mathlib.Core.List.{List}
 use lib.ListN.{length}
 use lib.Dec.{eqb}
 use borrow.Author.Tests.{eqb-true, eq-eqb}
+use Rattle.machine.specs.Bytes.{zeros}
 use Rattle.machine.specs.Machine.{Machine}
 use Rattle.answers.specs.Answers as answers
 use Rattle.answers.proofs.Answers.{FinishOk, OpenFinishOk, AbortOk, finish-ok, open-finish-ok, abort-ok}
 use Rattle.lent.specs.Lent.{same, wiped}
 use Rattle.lent.proofs.Wiped.{wiped-fits}
 use Rattle.promises.specs.Cipher.{Cipher, Mac}
-use Rattle.promises.specs.Session.{pick, sealing, opening, macing, Session, Handed, Wrote, Opened, ifOpening, wellFormed, live, erased, ended, abortLive}
+use Rattle.promises.specs.OneShot.{onto}
+use Rattle.promises.specs.Session.{pick, sealing, opening, macing, Session, Handed, Wrote, Opened, ifOpening, wellFormed, live, ended, abortLive}
 use Rattle.promises.specs.Session.{sessionTag, sessionMac, sealFinish, macFinish, macFinishCheck, released, openFinish, abort}
 use Rattle.promises.proofs.SessionLive.{live-facts, opening-facts, abortLive-facts}
 use Rattle.promises.proofs.Ladder.{does, refuses}
+use Rattle.promises.proofs.Onto.{onto-zeros}
 use Rattle.session.proofs.LiveFacts.{live-formed}
 
 module _ {S : Type 0} (C : Cipher S) where
@@ -83,8 +86,8 @@ module _ {S : Type 0} (C : Cipher S) where
 
   -- ---- what an opener erases
 
-  erasing : (t : Bool) (n : ℕ) (plain : List ℕ) → (t ≡ true → n ≤ length plain) → pick t (wiped n 0 plain) plain ≡ pick t (erased n plain) plain
-  erasing true n plain h = wiped-fits n 0 plain (h refl)
+  erasing : (t : Bool) (n : ℕ) (plain : List ℕ) → (t ≡ true → n ≤ length plain) → pick t (wiped n 0 plain) plain ≡ pick t (onto (zeros n) plain) plain
+  erasing true n plain h = wiped-fits n 0 plain (h refl) ∙ sym (onto-zeros n plain)
   erasing false n plain h = refl
 
   -- ---- opening
@@ -123,8 +126,8 @@ module _ {S : Type 0} (C : Cipher S) where
         unfolding openFinish released
         open-erased e o eo =
             let k : eqb (s .mark) opening ≡ true = eq-eqb (s .mark) opening (live-facts rate s opening (open-ok h .is-live) .kind-is) in
-            let w : o ≡ erased (s .written) plain
-            = eo ∙ erasing (eqb (s .mark) opening) (s .written) plain (λ _. open-within) ∙ ap (λ (x : Bool). pick x (erased (s .written) plain) plain) k in
+            let w : o ≡ onto (zeros (s .written)) plain
+            = eo ∙ erasing (eqb (s .mark) opening) (s .written) plain (λ _. open-within) ∙ ap (λ (x : Bool). pick x (onto (zeros (s .written)) plain) plain) k in
             does _ a _ _ _ open-ladder h
             ((λ k. record { answer = 7; count = 0; session = over k; out = w k }) ∙ ap (λ (v : Bool). released C v s plain) (sym e ∙ verdict))
 
