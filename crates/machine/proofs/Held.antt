@@ -10,29 +10,20 @@ use native.Mathlib.Omega.{arith}
 use lib.ListN.{length, drop, getD, set, length-append, length-drop}
 use lib.Seq.{drop-length, drop-cons, drop-append-le, set-at}
 use Rattle.machine.specs.Bytes.{zeros}
-use Rattle.machine.specs.Machine.{Machine, Core, Mode, plain, enc, dec, start, current, code, settled, next, after, out, WellFormed}
+use Rattle.machine.specs.Machine.{Machine, Core, Mode, plain, enc, dec, start, current, code, settled, next, after, out, WellFormed, Held}
 use Rattle.machine.proofs.Cases.{settled-short, settled-full}
 use Rattle.machine.proofs.Kept.{next-kept}
 
 module _ {S : Type 0} (M : Machine S) where
   open Machine M using (rate, begin, absorb, begin-length)
 
-  -- what stands above the fill
-  abbrev pub unused : Core S → List ℕ
-  unused c = elim (c .fill) [ zero ↦ zeros rate | suc f ↦ begin (c .state) ]
-
-  -- p is the message so far
-  pub record Held (p : List ℕ) (c : Core S) : Type 0 where
-    pub fill-within : c .fill ≤ length p
-    pub buf-is : c .buf ≡ drop (length p - c .fill) p ++ drop (c .fill) (unused c)
-
-  pub held-at-start : (s : S) → Held [] (start M s)
+  pub held-at-start : (s : S) → Held M [] (start M s)
   unfolding start
   held-at-start s = record { fill-within = omega arith; buf-is = refl }
 
   -- ---- one byte more
 
-  module _ (p : List ℕ) (c : Core S) (w : WellFormed M c) (h : Held p c) where
+  module _ (p : List ℕ) (c : Core S) (w : WellFormed M c) (h : Held M p c) where
     abbrev part : List ℕ
     part = drop (length p - c .fill) p
 
@@ -62,14 +53,14 @@ module _ {S : Type 0} (M : Machine S) where
         ∙ sym (append-assoc part (y ∷ []) rest)
         ∙ ap (λ (b : List ℕ). b ++ rest) (sym (drop-append-le (length p - c .fill) p (y ∷ []) (omega arith)))
 
-    held-settled : (y : ℕ) → Held (p ++ (y ∷ [])) (settled M (c .state) (set (current M c) (c .fill) y) (suc (c .fill)))
+    held-settled : (y : ℕ) → Held M (p ++ (y ∷ [])) (settled M (c .state) (set (current M c) (c .fill) y) (suc (c .fill)))
     unfolding start
     held-settled y = go (eq-or-lt-of-le (w .fill-below))
       where
         long : length (p ++ (y ∷ [])) ≡ suc (length p)
         long = rw length-append (omega arith)
 
-        full : Held (p ++ (y ∷ [])) (start M (absorb (c .state) (set (current M c) (c .fill) y)))
+        full : Held M (p ++ (y ∷ [])) (start M (absorb (c .state) (set (current M c) (c .fill) y)))
         full =
             let z : length (p ++ (y ∷ [])) - 0 ≡ length (p ++ (y ∷ [])) = omega arith in
             record {
@@ -77,7 +68,7 @@ module _ {S : Type 0} (M : Machine S) where
               buf-is = ap (λ (xs : List ℕ). xs ++ zeros rate) (sym (ap (λ (k : ℕ). drop k (p ++ (y ∷ []))) z ∙ drop-length (p ++ (y ∷ []))));
             }
 
-        short : Held (p ++ (y ∷ [])) (record { state = c .state; buf = set (current M c) (c .fill) y; fill = suc (c .fill) })
+        short : Held M (p ++ (y ∷ [])) (record { state = c .state; buf = set (current M c) (c .fill) y; fill = suc (c .fill) })
         short =
             let k = h .fill-within in
             let e : length (p ++ (y ∷ [])) - suc (c .fill) ≡ length p - c .fill = omega (arith, long) in
@@ -86,14 +77,14 @@ module _ {S : Type 0} (M : Machine S) where
               buf-is = stored y ∙ ap (λ (j : ℕ). drop j (p ++ (y ∷ [])) ++ drop (suc (c .fill)) (begin (c .state))) (sym e);
             }
 
-        go : (suc (c .fill) ≡ rate) ⊎ (suc (c .fill) < rate) → Held (p ++ (y ∷ [])) (settled M (c .state) (set (current M c) (c .fill) y) (suc (c .fill)))
+        go : (suc (c .fill) ≡ rate) ⊎ (suc (c .fill) < rate) → Held M (p ++ (y ∷ [])) (settled M (c .state) (set (current M c) (c .fill) y) (suc (c .fill)))
         go (inl e) = rw (settled-full M (c .state) (set (current M c) (c .fill) y) (suc (c .fill)) e) full
         go (inr l) = rw (settled-short M (c .state) (set (current M c) (c .fill) y) (suc (c .fill)) l) short
 
   -- ---- many bytes more
 
   module _ (m : Mode) where
-    pub held-next : (p : List ℕ) (c : Core S) (x : ℕ) → WellFormed M c → Held p c → Held (p ++ (plain m x (code M c x) ∷ [])) (next M m c x)
+    pub held-next : (p : List ℕ) (c : Core S) (x : ℕ) → WellFormed M c → Held M p c → Held M (p ++ (plain m x (code M c x) ∷ [])) (next M m c x)
     unfolding next
     held-next p c x w h = held-settled p c w h (plain m x (code M c x))
 
@@ -105,12 +96,12 @@ module _ {S : Type 0} (M : Machine S) where
   plain-nil enc = refl
   plain-nil dec = refl
 
-  pub held-after : (m : Mode) (p : List ℕ) (c : Core S) (xs : List ℕ) → WellFormed M c → Held p c → Held (p ++ plain m xs (out M m c xs)) (after M m c xs)
+  pub held-after : (m : Mode) (p : List ℕ) (c : Core S) (xs : List ℕ) → WellFormed M c → Held M p c → Held M (p ++ plain m xs (out M m c xs)) (after M m c xs)
   unfolding after out
-  held-after m p c [] w h = subst (λ (q : List ℕ). Held q c) (sym (ap (λ (q : List ℕ). p ++ q) (plain-nil m) ∙ append-nil p)) h
+  held-after m p c [] w h = subst (λ (q : List ℕ). Held M q c) (sym (ap (λ (q : List ℕ). p ++ q) (plain-nil m) ∙ append-nil p)) h
   held-after m p c (x ∷ xs) w h =
       let y = plain m x (code M c x) in
       let ys = out M m (next M m c x) xs in
-      subst (λ (q : List ℕ). Held q (after M m (next M m c x) xs))
+      subst (λ (q : List ℕ). Held M q (after M m (next M m c x) xs))
       (append-assoc p (y ∷ []) (plain m xs ys) ∙ ap (λ (q : List ℕ). p ++ q) (plain-cons m x (code M c x) xs ys))
       (held-after m (p ++ (y ∷ [])) (next M m c x) xs (next-kept M m c x w) (held-next m p c x w h))

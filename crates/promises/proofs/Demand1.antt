@@ -21,6 +21,8 @@ use Rattle.promises.proofs.ExactlyFirst.{first-applies}
 use Rattle.promises.proofs.ExactlyRefused.{refused-untouched}
 use Rattle.promises.proofs.ExactlyMade.{in-any-order}
 use Rattle.promises.proofs.MadeCalls.{ended-is-over, over-answers-8}
+use Rattle.promises.proofs.Traces.{trace-then}
+use Rattle.promises.proofs.TracesHeld.{seal-session-record, open-session-record, mac-session-record}
 use Rattle.promises.proofs.TracesAborting.{seal-session-aborts, mac-session-aborts, open-session-aborts}
 use Rattle.promises.proofs.TracesOtherRoom.{other-room-answers}
 use Rattle.promises.proofs.TracesInterleaved.{each-is-a-trace}
@@ -55,11 +57,15 @@ module _ {S : Type 0} (C : Cipher S) (M : Mac S) where
     answered = call-answered C M;
     one-answer = call-one-answer C M;
     any-order = in-any-order C M;
+    any-copy = trace-then C M;
     any-sessions = each-is-a-trace C M;
     first-applies = first-applies C M;
     refused = refused-untouched C M;
     ends = ended-is-over C M;
     over = over-answers-8 C M;
+    sealing-record = seal-session-record C M;
+    opening-record = open-session-record C M;
+    mac-record = mac-session-record C M;
     abort-sealing = seal-session-aborts C M;
     abort-mac = mac-session-aborts C M;
     abort-opening = open-session-aborts C M;

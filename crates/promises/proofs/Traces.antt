@@ -22,7 +22,7 @@ use Rattle.promises.specs.Session as session
 use Rattle.promises.specs.Run.{Call, World, Result, begun, accepted, took, left, wrote, handed, counted, step, hands, run, results}
 use Rattle.promises.specs.Run as call
 use Rattle.promises.specs.Trace.{Made, sealPiece, sealPieceInPlace, openPiece, macPiece, sealFinish, openFinish, macFinish, macFinishCheck, abort}
-use Rattle.promises.specs.Trace.{Calls, none, _▸_, counts, input, output, taken, given, Ended, Going, Lent, Keeps, OneBuffer, at-first, kept}
+use Rattle.promises.specs.Trace.{Calls, none, _▸_, _then_, counts, input, output, taken, given, Ended, Going, Lent, Keeps, OneBuffer, at-first, kept}
 use Rattle.promises.specs.Trace.{Met, Trace, at-start, made}
 use Rattle.promises.proofs.SessionLive.{live-facts}
 use Rattle.promises.proofs.SessionLadders as ladder
@@ -481,6 +481,11 @@ module _ {S : Type 0} (C : Cipher S) (M : Mac S) where
 
   pub last-call-any : {s₀ s : Session S} {cs : Calls} {c : Made} (p : List ℕ) → s₀ .mark ≢ opening → Trace C M s₀ (cs ▸ c) s → Last s₀ p cs c s p
   last-call-any p n t = last (walk-any p n t)
+
+  -- calls on the session that others left are calls behind them
+  pub trace-then : {s₀ s s′ : Session S} {cs ds : Calls} → Trace C M s₀ cs s → Trace C M s ds s′ → Trace C M s₀ (cs then ds) s′
+  trace-then t at-start = t
+  trace-then t (made u c m) = made (trace-then t u) c m
 
   pub trace-before : {s₀ s′ : Session S} {cs : Calls} {c : Made} → Trace C M s₀ (cs ▸ c) s′ → (s : Session S) × Trace C M s₀ cs s × Met C M s c s′
   trace-before (made {s = s} t c m) = (s, t, m)

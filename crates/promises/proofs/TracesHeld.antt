@@ -11,26 +11,16 @@ use Rattle.machine.specs.Kinds.{silent}
 use Rattle.machine.proofs.Cutting.{out-length}
 use Rattle.machine.proofs.Kept.{start-kept, after-fill}
 use Rattle.machine.proofs.Draft.{decrypts}
-use Rattle.machine.proofs.Held.{Held, held-at-start, held-after}
+use Rattle.machine.proofs.Held.{held-at-start, held-after}
 use Rattle.promises.specs.Cipher.{Cipher, Mac}
 use Rattle.promises.specs.OneShot.{keyed, plaintext}
-use Rattle.promises.specs.Session.{sealing, opening, macing, core, Session}
+use Rattle.promises.specs.Session.{sealing, opening, macing}
+use Rattle.promises.specs.Record.{RecordHolds}
 use Rattle.promises.specs.Trace.{Calls, taken, Going, SealSession, OpenSession, MacSession}
 use Rattle.promises.proofs.SessionAt.{sessionAt}
 use Rattle.promises.proofs.TracesSealing as sealings
 use Rattle.promises.proofs.TracesOpening as openings
 use Rattle.promises.proofs.TracesMac as macs
-
--- `K` is the machine at work in it, and `msg` the message so far
-pub record RecordHolds {S : Type 0} (K : Machine S) (kind ad n held written : ℕ) (msg : List ℕ) (s : Session S) : Type 0 where
-  pub mark-is : s .mark ≡ kind
-  pub ad-length-is : s .adLength ≡ ad
-  pub msg-length-is : s .msgLength ≡ length msg
-  pub tag-size-is : s .tagSize ≡ n
-  pub room-is : s .room ≡ held
-  pub written-is : s .written ≡ written
-  pub fill-is : s .fill ≡ length msg % K .rate
-  pub buffer : Held K msg (core s)
 
 module _ {S : Type 0} (K : Machine S) (m : Mode) (s₀ : S) (kind ad n held written : ℕ) where
   plain-long : (m : Mode) (xs ys : List ℕ) → length ys ≡ length xs → length (plain m xs ys) ≡ length xs

@@ -10,15 +10,17 @@ use mathlib.Core.List.{List, [], _++_}
 use lib.ListN.{length, take, getD, replicate}
 use Rattle.machine.specs.Bytes.{zeros, xors, Bytes}
 use Rattle.machine.specs.Draft.{draftAbsorb, draftEncrypt, draftDecrypt, draftDecryptState}
+use Rattle.machine.specs.Kinds.{silent}
 use Rattle.answers.specs.Answers.{limit, FirstApplies}
 use Rattle.promises.specs.Cipher.{Cipher, Mac}
 use Rattle.promises.specs.Allowed.{Allowed}
 use Rattle.promises.specs.OneShot.{onto, ciphertext, plaintext}
-use Rattle.promises.specs.Session.{Session, ended}
+use Rattle.promises.specs.Session.{Session, ended, sealing, opening, macing}
+use Rattle.promises.specs.Record.{RecordHolds}
 use Rattle.promises.specs.Met.{SealMet, SealInPlaceMet, OpenMet, OpenInPlaceMet, StreamMet, StreamXorMet, MacMet, MacCheckMet, OpenStartMet}
 use Rattle.promises.specs.AnyCall.{AnyCall, Leaves, CallMet, rungsOf, untouched, asks}
 use Rattle.promises.specs.Trace.{Made, openPiece, sealFinish, openFinish, macFinish, macFinishCheck, abort, Ask, answerOf, LeftAlone, Met, Trace}
-use Rattle.promises.specs.Trace.{Calls, _▸_, taken, given, Ended, Going, Over, Refused, AllLentOther, AnswersOther, SealSession, OpenSession, MacSession}
+use Rattle.promises.specs.Trace.{Calls, _▸_, _then_, taken, given, Ended, Going, Over, Refused, AllLentOther, AnswersOther, SealSession, OpenSession, MacSession}
 use Rattle.promises.specs.Interleaved.{Interleaving, callsOn, Interleaved}
 use Rattle.promises.specs.Calls.{SealCall, OpenCall}
 
@@ -35,6 +37,8 @@ pub record Demand1 {S : Type 0} (C : Cipher S) (M : Mac S) : Type 0 where
   pub answered : (c : AnyCall S) → (a : ℕ) × (l : Leaves c) × CallMet C M c a l
   pub one-answer : (c : AnyCall S) (a a₂ : ℕ) (l l₂ : Leaves c) → CallMet C M c a l → CallMet C M c a₂ l₂ → (a ≡ a₂) × (l ≡ l₂)
   pub any-order : (s : Session S) (qs : List Ask) → (cs : Calls) × (s′ : Session S) × (asks cs ≡ qs) × Trace C M s cs s′
+  -- calls on a session that others left, or on a copy of it, are calls behind those
+  pub any-copy : {s₀ s s′ : Session S} {cs ds : Calls} → Trace C M s₀ cs s → Trace C M s ds s′ → Trace C M s₀ (cs then ds) s′
   -- calls on several sessions may be interleaved: those on each one are a trace of it
   pub any-sessions : {first last : ℕ → Session S} {ks : Interleaving} → Interleaved C M first ks last → (j : ℕ) → Trace C M (first j) (callsOn j ks) (last j)
   -- "Document 01 fixes each refusal": the first that applies, in its order, is the answer
@@ -44,6 +48,13 @@ pub record Demand1 {S : Type 0} (C : Cipher S) (M : Mac S) : Type 0 where
   pub refused : (c : AnyCall S) (a : ℕ) (l : Leaves c) → CallMet C M c a l → a ≢ 0 → a ≢ 7 → l ≡ untouched C M c
   pub ends : (s s′ : Session S) (c : Made) → Met C M s c s′ → Ended c → s′ ≡ ended C
   pub over : {s₀ s : Session S} {cs : Calls} {c : Made} → Trace C M s₀ (cs ▸ c) s → Over cs → (answerOf c ≡ 8) × LeftAlone c
+  -- and while a session goes on its record holds the counts and the bytes that 01 names
+  pub sealing-record : {cs : Calls} {key nonce ad : List ℕ} {n : ℕ} (t : SealSession C M key nonce ad n cs) → t .started ≡ 0 → Going cs
+      → RecordHolds (C .machine) sealing (length ad) n 0 0 (taken cs) (t .last)
+  pub opening-record : {cs : Calls} {key nonce ad p₀ p : List ℕ} {n : ℕ} (t : OpenSession C M key nonce ad n p₀ cs p) → t .started ≡ 0 → Going cs
+      → RecordHolds (C .machine) opening (length ad) n (length p₀) (length (taken cs)) (plaintext C key nonce ad (taken cs)) (t .last)
+  pub mac-record : {cs : Calls} {key nonce : List ℕ} {n : ℕ} (t : MacSession C M key nonce n cs) → t .started ≡ 0 → Going cs
+      → RecordHolds (silent (C .machine)) macing 0 n 0 0 (taken cs) (t .last)
   -- a session that was started and that no call has ended is aborted with 0; only an opening's buffer is touched then
   pub abort-sealing : {key nonce ad : List ℕ} {n : ℕ} {cs : Calls} {b b′ : List ℕ} {a : ℕ} (t : SealSession C M key nonce ad n (cs ▸ abort b a b′))
       → t .started ≡ 0 → Going cs → (a ≡ 0) × (b′ ≡ b)

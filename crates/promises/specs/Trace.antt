@@ -54,6 +54,12 @@ pub data Calls : Type 0 where
   none : Calls
   _▸_ : Calls → Made → Calls
 
+-- ds behind cs
+infixl 15 _then_
+abbrev pub _then_ : Calls → Calls → Calls
+cs then none = cs
+cs then (ds ▸ d) = (cs then ds) ▸ d
+
 -- ---- what can be seen of them
 
 abbrev pub answerOf : Made → ℕ
