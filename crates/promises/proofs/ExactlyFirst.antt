@@ -12,8 +12,8 @@ use lib.ListN.{length}
 use Rattle.machine.specs.Machine.{Machine}
 use Rattle.answers.specs.Answers.{Rung, climb, FirstApplies}
 use Rattle.answers.specs.Answers as answers
-use Rattle.answers.proofs.Ladder.{Extends}
-use Rattle.answers.proofs.Ladders.{numbered, climb-exactly, climb-extends}
+use Rattle.answers.proofs.Ladder.{Extends, numbered, climb-extends}
+use Rattle.answers.proofs.FirstApplies.{climb-exactly}
 use Rattle.lent.specs.Lent.{same}
 use Rattle.promises.specs.Cipher.{Cipher, Mac}
 use Rattle.promises.specs.OneShot.{Left, onDone, verdict, openTag, macTag, openOf, macCheckOf}
