@@ -1,7 +1,7 @@
 # What nothing uses. Given the documents and then all .antt and .rt files of the crates, it prints a line for each
 #   - public name of specs/ and proofs/ that no other file uses, no document has in backquotes and no public statement of its own file has,
 #   - other name there that its own file never uses,
-#   - name that a file imports and never uses,
+#   - name that a file imports, or takes from a record that it opens, and never uses,
 #   - public function that nothing calls and that is not exported.
 # The fields of a record go with the record, and a function's own proof (Proof.antt) is for the checker. What a comment says is no use. A word
 # ends at white space, at ( ) { } , ; and . so -, ′, · and ₂ are letters of it.
@@ -87,6 +87,11 @@ FNR == 1 { pending = ""; fields = public_head = -1 }
 }
 /^ *((pub|ghost) )*use / { import($0); next }
 /^ *(pub )?mod / || /^ *$/ { next }
+/^ *open .* using [(]/ {
+    n = split(substr($0, index($0, " using (") + 8), names, /[,) ]+/)
+    for (i = 1; i <= n; i++) if (names[i] != "") imported[++imports] = FILENAME SUBSEP names[i]
+    $0 = substr($0, 1, index($0, " using ("))
+}
 
 {
     match($0, /^ */)
@@ -114,6 +119,7 @@ FNR == 1 { pending = ""; fields = public_head = -1 }
     if (/^ *pub fn /) {
         sub(/<.*/, "", name)
         called[++functions] = FILENAME SUBSEP name
+        defines[FILENAME, name, indent] = 1
     }
     stated_here = public_head >= 0 || start == "module"
     for (i = 1; i <= count; i++) {
@@ -139,7 +145,7 @@ END {
     for (n = 1; n <= publics; n++) {
         split(public[n], pair, SUBSEP)
         if (pair[1] ~ /\/Proof[.]antt$/ || (public[n] in cited) || (pair[2] in document) || (public[n] in document) || (public[n] in stated)) continue
-        print pair[1] ": " pair[2] " is public, but no other file uses it and no document names it"
+        print pair[1] ": " pair[2] " is public, but no other file uses it, and no document names it"
     }
     for (n = 1; n <= privates; n++) {
         split(private[n], pair, SUBSEP)
@@ -149,7 +155,7 @@ END {
         split(imported[n], pair, SUBSEP)
         sign = pair[2]
         gsub(/_/, "", sign)
-        if (!(imported[n] in has) && !((pair[1], sign) in has)) print pair[1] ": " pair[2] " is imported, but not used"
+        if (!(imported[n] in has) && !((pair[1], sign) in has)) print pair[1] ": imports " pair[2] ", and does not use it"
     }
     for (n = 1; n <= functions; n++) {
         split(called[n], pair, SUBSEP)
