@@ -126,7 +126,7 @@ module _ (key nonce ad text tag : List ℕ) (fit : Fitting key nonce ad text tag
         text-fits = omega (arith, fit .text-fits);
       })
 
-  -- its parts
+  -- its parts, each where the layout has it
   key-is : between 1 17 whole ≡ key
   unfolding recordOf
   key-is = between-at (length tag ∷ []) key _ 1 17 refl (fit .key-size)

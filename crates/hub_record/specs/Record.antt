@@ -50,7 +50,7 @@ pub record Parts : Type 0 where
   pub text : List ℕ
   pub tag : List ℕ
 
--- where the ciphertext goes from place a up to place e
+-- the parts, where the ciphertext goes from place a up to place e
 abbrev pub partsBy : ℕ → ℕ → List ℕ → Parts
 partsBy a e l = record {
   key = between 1 17 l;
@@ -60,6 +60,7 @@ partsBy a e l = record {
   tag = between e (length l) l;
 }
 
+-- and where the head says that it goes
 abbrev pub partsIn : List ℕ → Parts
 partsIn l = partsBy (textStart l) (textEnd l) l
 
@@ -84,7 +85,7 @@ pub record RecordLeft : Type 0 where
   pub length : ℕ
   pub input : List ℕ
 
--- the parts, opened in place: no byte but the ciphertext's changes
+-- these parts opened in place: no byte but the ciphertext's changes
 unfoldable pub openParts : List ℕ → ℕ → ℕ → Left
 openParts l a e =
     let p = partsBy a e l in
