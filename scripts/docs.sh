@@ -1,7 +1,7 @@
 #!/bin/sh
 # Holds the documents to what is there: each theorem that docs/THEOREMS.md names is a public name of the file that it links, each edit that
 # docs/PROMISES.md names is there and each edit is named, the definitions have as many lines as docs/THEOREMS.md says, and each link leads to a file.
-# And the other way round: no law, definition, function or import is there that nothing uses and no document names (uses.awk).
+# And the other way round: no law, definition, function or import is there that nothing uses and docs/THEOREMS.md does not name (uses.awk).
 set -eu
 cd "$(dirname "$0")/.."
 
@@ -65,7 +65,7 @@ wrong=$(
     done
 
     # what nothing uses
-    find crates -name '*.antt' -o -name '*.rt' | LC_ALL=C sort | LC_ALL=C xargs awk -f scripts/uses.awk README.md docs/*.md
+    find crates -name '*.antt' -o -name '*.rt' | LC_ALL=C sort | LC_ALL=C xargs awk -f scripts/uses.awk docs/THEOREMS.md
 
     # links
     for page in README.md docs/*.md compare/*.md examples/*.md; do

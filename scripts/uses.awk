@@ -1,10 +1,11 @@
-# What nothing uses. Given the documents and then all .antt and .rt files of the crates, it prints a line for each
-#   - public name of specs/ and proofs/ that no other file uses, no document has in backquotes and no public statement of its own file has,
+# What nothing uses. Given docs/THEOREMS.md and then all .antt and .rt files of the crates, it prints a line for each
+#   - public name of specs/ and proofs/ that no other file uses, that docs/THEOREMS.md does not have in backquotes, and that no public statement of
+#     its own file speaks of,
 #   - other name there that its own file never uses,
 #   - name that a file imports, or takes from a record that it opens, and never uses,
 #   - public function that nothing calls and that is not exported.
-# The fields of a record go with the record, and a function's own proof (Proof.antt) is for the checker. What a comment says is no use. A word
-# ends at white space, at ( ) { } , ; and . so -, ′, · and ₂ are letters of it.
+# The fields of a record go with the record, and a function's own proof (Proof.antt) is for the checker. What a comment says is no use, and that an
+# edit is refused by a law is none either (docs/PROMISES.md). A word ends at white space, at ( ) { } , ; and . so -, ′, · and ₂ are letters of it.
 
 # Rattle.aes.specs.Round and Rattle.aes.specs.Round are crates/aes/specs/Round.antt
 function file_of(path, at, crate) {
@@ -48,7 +49,7 @@ function import(line, reexported, path, n, i) {
     }
 }
 
-# ---- the documents: in a table of docs/THEOREMS.md a name behind a link is one of that file; any other may be of any file
+# ---- the document: in a table a name behind a link is one of the file that it leads to; any other may be of any file
 
 FILENAME ~ /[.]md$/ {
     if (/^\[[A-Za-z0-9]+\]: /) {
@@ -145,7 +146,7 @@ END {
     for (n = 1; n <= publics; n++) {
         split(public[n], pair, SUBSEP)
         if (pair[1] ~ /\/Proof[.]antt$/ || (public[n] in cited) || (pair[2] in document) || (public[n] in document) || (public[n] in stated)) continue
-        print pair[1] ": " pair[2] " is public, but no other file uses it, and no document names it"
+        print pair[1] ": " pair[2] " is public, but no other file uses it, and docs/THEOREMS.md does not name it"
     }
     for (n = 1; n <= privates; n++) {
         split(private[n], pair, SUBSEP)
