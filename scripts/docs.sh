@@ -1,6 +1,7 @@
 #!/bin/sh
 # Holds the documents to what is there: each theorem that docs/THEOREMS.md names is a public name of the file that it links, each edit that
 # docs/PROMISES.md names is there and each edit is named, the definitions have as many lines as docs/THEOREMS.md says, and each link leads to a file.
+# And the other way round: no law, definition, function or import is there that nothing uses and docs/THEOREMS.md does not name (uses.awk).
 set -eu
 cd "$(dirname "$0")/.."
 
@@ -63,6 +64,9 @@ wrong=$(
         [ "$there" -eq "$lines" ] || echo "docs/THEOREMS.md: $files has $there lines, not $lines"
     done
 
+    # what nothing uses
+    find crates -name '*.antt' -o -name '*.rt' | LC_ALL=C sort | LC_ALL=C xargs awk -f scripts/uses.awk docs/THEOREMS.md
+
     # links
     for page in README.md docs/*.md compare/*.md examples/*.md; do
         grep -oE '\]\([^)#: ]+' "$page" | sed 's/^](//' | sort -u | while read -r link; do
@@ -71,4 +75,4 @@ wrong=$(
     done
 )
 [ -z "$wrong" ] || { echo "$wrong" >&2; exit 1; }
-echo 'every theorem, edit and file that the documents name is there'
+echo 'every theorem, edit and file that the documents name is there, and all that is there is used'

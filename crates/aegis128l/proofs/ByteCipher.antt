@@ -1,17 +1,18 @@
 -- AEGIS-128L maps bytes to bytes: its states are blocks of bytes, and so keystream and tags are.
 -- Assumes nothing.
-use Prim.Native.Nat.{ℕ, zero, suc, _+_, _/_, _%_, _^_, _*_, _<_}
+use Prim.Native.Nat.{ℕ, zero, suc, _+_, _/_, _%_, _<_}
 use mathlib.Core.Bool.{Bool, true, false}
-use mathlib.Core.List.{List, [], _∷_, _++_}
-use native.Mathlib.Nat.{mod-lt}
+use mathlib.Core.List.{List, [], _∷_}
 use lib.Dec.{eqb, lit<}
 use lib.ListN.{getD}
 use Rattle.machine.specs.Bytes.{Bytes}
+use Rattle.machine.specs.Lengths.{lengthBlock}
 use Rattle.machine.proofs.ByteLists.{byte-at, bytes-append, xor-byte, and-byte}
+use Rattle.machine.proofs.Lengths.{length-block-bytes}
 use Rattle.aes.specs.Round.{block, blockAt, at, columnsOf, subBytes, shiftRows, mixColumns, addRoundKey, roundOf, xorOf, andOf}
 use Rattle.aes.proofs.ByteRounds.{round-byte}
 use Rattle.promises.proofs.ByteTexts.{Bytewise}
-use Rattle.aegis128l.specs.Aegis128L.{Blocks, c0, c1, S, update, updates, absorb, keystream, loaded, init, le64, lengthBlock, finalized, tag16, tag32, tagBy, tag}
+use Rattle.aegis128l.specs.Aegis128L.{Blocks, c0, c1, S, update, updates, absorb, keystream, loaded, init, finalized, tag16, tag32, tagBy, tag}
 use Rattle.aegis128l.specs.Cipher.{aegis128l}
 
 block-bytes : (f : ℕ → ℕ) → ((i : ℕ) → f i < 256) → Bytes (block f)
@@ -102,16 +103,10 @@ init-bytes key nonce hk hn =
     let k1 = xor-bytes key c1 hk c1-bytes in
     updates-bytes 10 (loaded key nonce) nonce key (kn, (c1-bytes, (c0-bytes, (c1-bytes, (kn, (k0, (k1, (k0, tt)))))))) hn hk
 
-le64-bytes : (n : ℕ) → Bytes (le64 n)
-le64-bytes n = (m n, (m (n / 2 ^ 8), (m (n / 2 ^ 16), (m (n / 2 ^ 24), (m (n / 2 ^ 32), (m (n / 2 ^ 40), (m (n / 2 ^ 48), (m (n / 2 ^ 56), tt))))))))
-  where
-    m : (x : ℕ) → x % 256 < 256
-    m x = mod-lt x (lit< tt)
-
 finalized-bytes : (s : Blocks) (a b : ℕ) → AllBytes s → AllBytes (finalized s a b)
-unfolding finalized lengthBlock
+unfolding finalized
 finalized-bytes s a b h =
-    let t = xor-bytes (S s 2) (lengthBlock a b) (S-bytes s h 2) (bytes-append (le64 (a * 8)) (le64 (b * 8)) (le64-bytes (a * 8)) (le64-bytes (b * 8))) in
+    let t = xor-bytes (S s 2) (lengthBlock a b) (S-bytes s h 2) (length-block-bytes a b) in
     updates-bytes 7 s (xorOf (S s 2) (lengthBlock a b)) (xorOf (S s 2) (lengthBlock a b)) h t t
 
 tagBy-bytes : (t : Bool) (s : Blocks) → AllBytes s → Bytes (tagBy t s)

@@ -64,7 +64,7 @@ module _ {n : ℕ} {a b : List ℕ} {i : ℕ} {l : List ℕ} (p : Laid n a b i l
         let long′ : length (a ++ b) ≡ length a + length b = length-append a b in
         ext-getD 0 l (a ++ b) (omega arith) (λ k h. at k (omega arith) (decLt k n))
 
--- two blocks
+-- two blocks of 16 bytes, as `joined` has them
 pub blocks-both : {a b : List ℕ} {i : ℕ} {l : List ℕ} → Laid 16 a b i l → 16 ≤ i → length a ≡ 16 → length b ≡ 16 → l ≡ joined a b
 blocks-both {a} {b} p end la lb =
     let ea = block-of (λ k. getD a k 0) a la (λ k h. refl) in

@@ -30,7 +30,7 @@ updates-end n i s₀ s a b h e =
 
 -- ---- only the first 16 bytes of a key, a nonce or a message block count
 
-pub update-reads : (s : Blocks) (a b : List ℕ) → update s (blockAt a 0) (blockAt b 0) ≡ update s a b
+update-reads : (s : Blocks) (a b : List ℕ) → update s (blockAt a 0) (blockAt b 0) ≡ update s a b
 unfolding update xorOf
 update-reads s a b = refl
 
@@ -54,7 +54,7 @@ init-reads key nonce k n s r ek en es er =
 
 -- ---- the halves of a block, the second lent as the part from n on
 
-pub half : (n : ℕ) (l : List ℕ) → blockAt (take (length l - n) (drop n l)) 0 ≡ blockAt l n
+half : (n : ℕ) (l : List ℕ) → blockAt (take (length l - n) (drop n l)) 0 ≡ blockAt l n
 half n l =
     let k : length (drop n l) ≡ length l - n = length-drop n l in
     ap (λ (x : List ℕ). blockAt x 0) (take-all (length l - n) (drop n l) (omega arith)) ∙ (λ j. block (λ i. getD-drop n l i 0 j))

@@ -1,22 +1,19 @@
--- The tag: the length block, the last updates and the tag of either size, from what the calls of a step give.
+-- The tag: the last updates and the tag of either size, from what the calls of a step give.
 -- Assumes nothing.
-use Prim.Native.Nat.{ℕ, _*_}
+use Prim.Native.Nat.{ℕ}
 use mathlib.Core.Path.{_≡_, sym, ap, _∙_}
 use mathlib.Core.Bool.{Bool, true}
-use mathlib.Core.List.{List, _++_}
+use mathlib.Core.List.{List}
 use lib.Dec.{eqb}
 use lib.ListN.{length}
+use Rattle.machine.specs.Lengths.{lengthBlock}
 use Rattle.answers.specs.Answers.{tagSize}
 use Rattle.aes.specs.Round.{xorOf}
 use Rattle.lent.specs.Lent.{over}
 use Rattle.lent.proofs.Over.{over-same}
-use Rattle.aegis128l.specs.Aegis128L.{Blocks, S, updates, le64, lengthBlock, finalized, tag16, tag32, tagBy, tag}
+use Rattle.aegis128l.specs.Aegis128L.{Blocks, S, updates, finalized, tag16, tag32, tagBy, tag}
 use Rattle.aegis128l.specs.Cipher.{tag-length}
 use Rattle.aegis128l.specs.View.{joined}
-
-pub lengths-joined : (a b : ℕ) {x y l : List ℕ} → x ≡ le64 (a * 8) → y ≡ le64 (b * 8) → l ≡ x ++ y → l ≡ lengthBlock a b
-unfolding lengthBlock
-lengths-joined a b ex ey el = el ∙ (λ i. ex i ++ ey i)
 
 pub finished : (s : Blocks) (a b : ℕ) {l x : List ℕ} {r : Blocks}
     → l ≡ lengthBlock a b → x ≡ xorOf (S s 2) l → r ≡ updates 7 s x x → r ≡ finalized s a b

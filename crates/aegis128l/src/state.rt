@@ -1,6 +1,5 @@
 // The state of eight blocks: start, update, keystream, and one block of 32 bytes.
 ghost use mathlib.Core.Path.{_≡_};
-ghost use Prim.Native.Nat.{_≤_};
 ghost use lib.ListN.{length};
 ghost use Rattle.machine.specs.Bytes.{xors};
 ghost use Rattle.machine.specs.Machine.{plain};

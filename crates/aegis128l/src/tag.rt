@@ -4,6 +4,7 @@ ghost use mathlib.Core.Bool.{true};
 ghost use Prim.Native.Nat.{_≤_};
 ghost use lib.ListN.{length};
 ghost use Rattle.answers.specs.Answers.{tagSize, limit};
+ghost use Rattle.machine.specs.Lengths as lengths;
 ghost use Rattle.aes.specs.Field.{Table};
 ghost use Rattle.aegis128l.specs.Aegis128L as draft;
 ghost use Rattle.aegis128l.specs.View.{stateOf};
@@ -12,7 +13,7 @@ use aes::AesBlock;
 
 // A number as 8 bytes, little-endian.
 pub fn le64(x: u64) -> [u8; 8]
-    ensures { λ r. ⌜ r ≡ draft.le64 x ⌝ }
+    ensures { λ r. ⌜ r ≡ lengths.le64 x ⌝ }
 {
     [
         (x % 256) as u8,
@@ -29,7 +30,7 @@ pub fn le64(x: u64) -> [u8; 8]
 // Two lengths in bytes, as bits.
 fn length_block(a: u64, b: u64) -> AesBlock
     requires { ⌜ (a ≤ limit) × (b ≤ limit) ⌝ }
-    ensures { λ r. ⌜ r .bytes ≡ draft.lengthBlock a b ⌝ }
+    ensures { λ r. ⌜ r .bytes ≡ lengths.lengthBlock a b ⌝ }
 {
     let x = le64(a * 8);
     let y = le64(b * 8);

@@ -1,17 +1,17 @@
 -- A round, a xor and an and of blocks of bytes are blocks of bytes.
 -- Assumes nothing.
-use Prim.Native.Nat.{ℕ, zero, suc, _+_, _*_, _/_, _%_, _^_, _<_}
+use Prim.Native.Nat.{ℕ, zero, suc, _+_, _*_, _/_, _%_, _<_}
 use mathlib.Core.Path.{_≡_, refl}
 use mathlib.Core.Bool.{Bool, true, false}
-use mathlib.Core.List.{List, [], _∷_}
+use mathlib.Core.List.{List}
 use native.Mathlib.Omega.{arith}
 use native.Mathlib.Nat.{mod-lt}
 use lib.Dec.{ltb, lit<}
 use lib.ListN.{getD}
-use lib.Bits.{bitXor, bitAnd, xor-lt, and-lt}
+use lib.Bits.{bitXor, xor-lt}
 use borrow.Author.Tests.{ltb-true}
-use Rattle.aes.specs.Field.{pick, xtime, only, mulBits, mul, bit, affineBit, affine, sbox}
-use Rattle.aes.specs.Round.{block, column, state, at, columnsOf, bytesOf, subBytes, shiftRows, mixed, mixColumns, addRoundKey, roundOf, xorOf, andOf}
+use Rattle.aes.specs.Field.{pick, xtime, only, mulBits, mul, affineBit, affine, sbox}
+use Rattle.aes.specs.Round.{column, state, at, columnsOf, subBytes, shiftRows, mixed, mixColumns, addRoundKey}
 
 xor-byte : (a b : ℕ) → a < 256 → b < 256 → bitXor a b < 256
 xor-byte a b = xor-lt 8 a b

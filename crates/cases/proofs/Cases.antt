@@ -2,10 +2,11 @@
 -- Assumes nothing.
 use mathlib.Core.Path.{_≡_, refl}
 use mathlib.Core.List.{map}
+use Rattle.machine.specs.Lengths.{lengthBlock}
 use Rattle.answers.specs.Length.{addedTo}
 use Rattle.aes.specs.Field.{xtime, mulBits, mul, inv, affine, sbox}
 use Rattle.aes.specs.Round.{mixed, roundOf, xorOf, andOf}
-use Rattle.aegis128l.specs.Aegis128L.{lengthBlock, update, absorb, keystream}
+use Rattle.aegis128l.specs.Aegis128L.{update, absorb, keystream}
 use Rattle.hub_record.specs.Nonce.{nonceOf}
 use Rattle.cases.specs.Cases.{cases}
 

@@ -5,10 +5,11 @@ use Prim.Native.Nat.{ℕ, _*_, _^_, _-_}
 use mathlib.Core.List.{List, [], _∷_, _++_}
 use lib.ListN.{replicate}
 use Rattle.machine.specs.Bytes.{zeros}
+use Rattle.machine.specs.Lengths.{le64, lengthBlock}
 use Rattle.answers.specs.Length.{addedTo}
 use Rattle.aes.specs.Field.{mul, sbox}
 use Rattle.aes.specs.Round.{columnsOf, bytesOf, shiftRows, mixColumn, roundOf}
-use Rattle.aegis128l.specs.Aegis128L.{le64, lengthBlock, absorb, keystream}
+use Rattle.aegis128l.specs.Aegis128L.{absorb, keystream}
 use Rattle.hub_record.specs.Nonce.{nonceOf}
 
 pub record Case : Type 0 where
@@ -16,7 +17,7 @@ pub record Case : Type 0 where
   pub must : List ℕ
 
 infix 10 _is_
-abbrev pub _is_ : List ℕ → List ℕ → Case
+abbrev _is_ : List ℕ → List ℕ → Case
 g is m = record { gives = g; must = m }
 
 -- P1: S-box 00 is 63

@@ -17,7 +17,7 @@ use Rattle.aegis128l.specs.Aegis128L.{Blocks, S, update, updates, absorb, keyst
 
 -- ---- the S-box by its table, which has the bytes alone
 
-abbrev pub looked-up : ℕ → ℕ
+abbrev looked-up : ℕ → ℕ
 looked-up b = pick (ltb b 256) (getD table b 0) (sbox b)
 
 is-sbox : (b : ℕ) → looked-up b ≡ sbox b
@@ -28,10 +28,10 @@ is-sbox b = go (ltb b 256) refl
     go false e = refl
 
 -- round and update over any S-box
-abbrev pub roundBy : (ℕ → ℕ) → List ℕ → List ℕ → List ℕ
+abbrev roundBy : (ℕ → ℕ) → List ℕ → List ℕ → List ℕ
 roundBy f b k = bytesOf (addRoundKey (mixColumns (shiftRows (state (λ r c. f (at (columnsOf b) r c))))) (columnsOf k))
 
-abbrev pub updateBy : (ℕ → ℕ) → Blocks → List ℕ → List ℕ → Blocks
+abbrev updateBy : (ℕ → ℕ) → Blocks → List ℕ → List ℕ → Blocks
 updateBy f s m0 m1 =
     xorOf (roundBy f (S s 7) (S s 0)) m0
     ∷ roundBy f (S s 0) (S s 1)
@@ -50,11 +50,11 @@ is-update s m0 m1 = λ i. updateBy (λ b. is-sbox b i) s m0 m1
 -- ---- a value, written out before it is used
 
 module _ {A : Type 0} where
-  abbrev pub withByte : ℕ → (ℕ → A) → A
+  abbrev withByte : ℕ → (ℕ → A) → A
   withByte zero k = k zero
   withByte (suc n) k = k (suc n)
 
-  abbrev pub withBytes : List ℕ → (List ℕ → A) → A
+  abbrev withBytes : List ℕ → (List ℕ → A) → A
   withBytes [] k = k []
   withBytes (x ∷ xs) k = withByte x (λ y. withBytes xs (λ ys. k (y ∷ ys)))
 

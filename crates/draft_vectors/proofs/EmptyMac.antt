@@ -8,10 +8,11 @@ use native.Mathlib.Omega.{arith}
 use lib.ListN.{getD}
 use Rattle.machine.specs.Bytes.{zeros}
 use Rattle.machine.specs.Draft.{absorbBlocks, zeroPad, blocks, split, draftAbsorb}
+use Rattle.machine.specs.Lengths.{lengthBlock}
 use Rattle.promises.specs.OneShot.{macState, macTag}
 use Rattle.aes.specs.Field.{xtime, mulBits, mul}
 use Rattle.aes.specs.Round.{mixed, xorOf}
-use Rattle.aegis128l.specs.Aegis128L.{Blocks, machine, absorb, loaded, init, lengthBlock, finalized, tag16, tag}
+use Rattle.aegis128l.specs.Aegis128L.{machine, absorb, loaded, init, tag16, tag}
 use Rattle.aegis128l.specs.Cipher.{aegis128l, aegis128lMac}
 use Rattle.draft_vectors.specs.Vectors.{hex}
 use Rattle.draft_vectors.proofs.Computing.{computed, absorbs}

@@ -4,8 +4,9 @@ use Prim.Native.Nat.{ℕ}
 use mathlib.Core.Path.{_≡_, ap, _∙_}
 use mathlib.Core.List.{List}
 use Rattle.machine.specs.Draft.{zeroPad, split, draftAbsorb}
+use Rattle.machine.specs.Lengths.{lengthBlock}
 use Rattle.aes.specs.Round.{xorOf}
-use Rattle.aegis128l.specs.Aegis128L.{Blocks, S, machine, loaded, init, lengthBlock, finalized}
+use Rattle.aegis128l.specs.Aegis128L.{Blocks, S, machine, loaded, init, finalized}
 use Rattle.draft_vectors.proofs.Computing.{withBlocks, blocks-are, computed, is-computed, absorbs, is-absorbed}
 
 -- whole blocks of an input, the last one padded
@@ -13,7 +14,7 @@ abbrev pub padded : List ℕ → List (List ℕ)
 padded xs = split 32 (zeroPad 32 xs)
 
 -- what is added to the state before the tag
-abbrev pub with-lengths : Blocks → ℕ → ℕ → List ℕ
+abbrev with-lengths : Blocks → ℕ → ℕ → List ℕ
 with-lengths s a b = xorOf (S s 2) (lengthBlock a b)
 
 module _ {A : Type 0} where

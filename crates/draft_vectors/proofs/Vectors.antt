@@ -7,10 +7,11 @@ use mathlib.Core.List.{List, [], _∷_, map}
 use native.Mathlib.Omega.{arith}
 use lib.ListN.{length, take, getD}
 use Rattle.machine.specs.Draft.{zeroPad, blocks, split, draftAbsorb, draftEncrypt}
+use Rattle.machine.specs.Lengths.{lengthBlock}
 use Rattle.promises.specs.OneShot.{keyed, ciphertext, sealTag, macState, macTag}
 use Rattle.aes.specs.Field.{xtime, mulBits, mul}
 use Rattle.aes.specs.Round.{mixed, xorOf, andOf}
-use Rattle.aegis128l.specs.Aegis128L.{Blocks, machine, keystream, loaded, init, lengthBlock, finalized, tag16, tag32, tag}
+use Rattle.aegis128l.specs.Aegis128L.{Blocks, machine, keystream, loaded, init, finalized, tag16, tag32, tag}
 use Rattle.aegis128l.specs.Cipher.{aegis128l}
 use Rattle.draft_vectors.specs.Vectors.{key, nonce, Sealed, sealed, Vector, vectors, Maced, input, maced, mac-must}
 use Rattle.draft_vectors.proofs.Computing.{computed, absorbs, encrypts, is-encrypted}

@@ -40,13 +40,13 @@ tens-by n x false e h =
     let p : 10 ≤ n = ltb-false n 10 e in
     rw (ne-eqb (n / 10) 0 (λ z. omega (arith, z))) (h p)
 
-pub decimal-last : (n : ℕ) → decimal n ≡ tens (n / 10) ++ last n
+decimal-last : (n : ℕ) → decimal n ≡ tens (n / 10) ++ last n
 unfolding decimal digits
 decimal-last n =
     ap (λ (l : List ℕ). l ++ last n)
     (tens-by n (digits n (n / 10)) (ltb n 10) refl (λ h. enough n (suc (n / 10)) (n / 10) (omega arith) (omega arith)))
 
-pub tens-some : (q : ℕ) → 0 < q → tens q ≡ decimal q
+tens-some : (q : ℕ) → 0 < q → tens q ≡ decimal q
 tens-some q h = rw (ne-eqb q 0 (λ z. omega (arith, z)))
 
 -- ---- a number below 10^k has at most k digits

@@ -10,7 +10,7 @@ use Rattle.promises.specs.OneShot.{Left, onDone, openInPlaceOf}
 use Rattle.promises.proofs.Lengths.{open-out-length}
 use Rattle.aegis128l.specs.Cipher.{aegis128l}
 use Rattle.hub_record.specs.Record.{headSize, between, tagSizeIn, adLengthIn, textStart, textEnd, shape}
-use Rattle.hub_record.specs.Record.{RecordLeft, refusedRecord, openedRecord, openParts, openRecordOf}
+use Rattle.hub_record.specs.Record.{partsBy, RecordLeft, refusedRecord, openedRecord, openParts, openRecordOf}
 use Rattle.hub_record.proofs.RecordShape.{ShapeOk, shape-ok}
 
 -- ---- what the code's three returns cite
@@ -92,11 +92,12 @@ opens l h =
 
 -- ---- no call changes the length of the input
 
-pub parts-length : (l : List ℕ) (a e : ℕ) → a ≤ e → e ≤ length l → length ((openParts l a e) .out) ≡ length l
+parts-length : (l : List ℕ) (a e : ℕ) → a ≤ e → e ≤ length l → length ((openParts l a e) .out) ≡ length l
 unfolding openParts
 parts-length l a e p q =
     let k : length (between a e l) ≡ e - a = mid-len a e l q in
-    let y = openInPlaceOf aegis128l (between 1 17 l) (between 17 33 l) (between headSize a l) (between a e l) (between e (length l) l) in
+    let p′ = partsBy a e l in
+    let y = openInPlaceOf aegis128l (p′ .key) (p′ .nonce) (p′ .ad) (p′ .text) (p′ .tag) in
     ap (λ (x : List ℕ). length (take a l ++ (y .out ++ x))) (sym (post-is a e l p))
     ∙ same-len-mid a (e - a) l (y .out) (open-out-length aegis128l _ _ _ (between a e l) _ (between a e l))
 

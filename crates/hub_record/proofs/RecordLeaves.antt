@@ -19,7 +19,7 @@ use Rattle.promises.proofs.Onto.{onto-whole}
 use Rattle.promises.proofs.OpenAnswers.{open-released, open-erased, same-not}
 use Rattle.aegis128l.specs.Cipher.{aegis128l}
 use Rattle.hub_record.specs.Record.{headSize, tagSizeIn, adLengthIn, textStart, textEnd, shape}
-use Rattle.hub_record.specs.Record.{keyIn, nonceIn, adIn, textIn, tagIn, RecordLeft, refusedRecord, openParts, openRecordOf}
+use Rattle.hub_record.specs.Record.{partsIn, RecordLeft, refusedRecord, openParts, openRecordOf}
 use Rattle.hub_record.proofs.RecordShape.{ShapeOk, shape-ok, shape-answers}
 use Rattle.hub_record.proofs.RecordAnswers.{shape-refused, verdict-refused, verdict-opened}
 
@@ -28,20 +28,20 @@ abbrev pub withText : List ℕ → List ℕ → List ℕ
 withText l xs = take (textStart l) l ++ (xs ++ drop (textEnd l) l)
 
 abbrev pub plainIn : List ℕ → List ℕ
-plainIn l = plaintext aegis128l (keyIn l) (nonceIn l) (adIn l) (textIn l)
+plainIn l = plaintext aegis128l (partsIn l .key) (partsIn l .nonce) (partsIn l .ad) (partsIn l .text)
 
 -- ---- the one-shot refuses none of the parts of a record of the right shape
 
 module _ (l : List ℕ) (k : ShapeOk (length l) (tagSizeIn l) (adLengthIn l)) where
-  text-length : length (textIn l) ≡ textEnd l - textStart l
+  text-length : length (partsIn l .text) ≡ textEnd l - textStart l
   text-length = mid-len (textStart l) (textEnd l) l (omega arith)
 
-  pub parts-sizes : Sizes aegis128l (keyIn l) (nonceIn l) (adIn l) (tagIn l) (textIn l) (textIn l)
+  parts-sizes : Sizes aegis128l (partsIn l .key) (partsIn l .nonce) (partsIn l .ad) (partsIn l .tag) (partsIn l .text) (partsIn l .text)
   parts-sizes =
       let h : headSize ≤ length l = k .head in
       let p : headSize + adLengthIn l + tagSizeIn l ≤ length l = k .parts in
-      let a : length (adIn l) ≡ textStart l - headSize = mid-len headSize (textStart l) l (omega arith) in
-      let t : length (tagIn l) ≡ tagSizeIn l = mid-len (textEnd l) (length l) l (omega arith) ∙ omega arith in
+      let a : length (partsIn l .ad) ≡ textStart l - headSize = mid-len headSize (textStart l) l (omega arith) in
+      let t : length (partsIn l .tag) ≡ tagSizeIn l = mid-len (textEnd l) (length l) l (omega arith) ∙ omega arith in
       record {
         tag-size = ap tagSize t ∙ k .tag-size;
         key-size = mid-len 1 17 l (omega arith);
@@ -52,20 +52,20 @@ module _ (l : List ℕ) (k : ShapeOk (length l) (tagSizeIn l) (adLengthIn l)) wh
       }
 
   -- so its verdict is on the tag alone
-  verdicts : (t : Bool) → same (tagIn l) (openTag aegis128l (keyIn l) (nonceIn l) (adIn l) (textIn l) (length (tagIn l))) ≡ t
+  verdicts : (t : Bool) → same (partsIn l .tag) (openTag aegis128l (partsIn l .key) (partsIn l .nonce) (partsIn l .ad) (partsIn l .text) (length (partsIn l .tag))) ≡ t
       → (openParts l (textStart l) (textEnd l) ≡ record { answer = 0; out = withText l (plainIn l) })
       ⊎ (openParts l (textStart l) (textEnd l) ≡ record { answer = 7; out = withText l (replicate (textEnd l - textStart l) 0xaa) })
   unfolding openParts
   verdicts true e =
-      let r = open-released aegis128l (keyIn l) (nonceIn l) (adIn l) (textIn l) (tagIn l) (textIn l) parts-sizes (same-equal _ _ e) in
-      let w : onto (plainIn l) (textIn l) ≡ plainIn l
-      = onto-whole (plainIn l) (textIn l) (omega (arith, plaintext-length aegis128l (keyIn l) (nonceIn l) (adIn l) (textIn l))) in
+      let r = open-released aegis128l (partsIn l .key) (partsIn l .nonce) (partsIn l .ad) (partsIn l .text) (partsIn l .tag) (partsIn l .text) parts-sizes (same-equal _ _ e) in
+      let w : onto (plainIn l) (partsIn l .text) ≡ plainIn l
+      = onto-whole (plainIn l) (partsIn l .text) (omega (arith, plaintext-length aegis128l (partsIn l .key) (partsIn l .nonce) (partsIn l .ad) (partsIn l .text))) in
       inl (λ i. record { answer = (r i) .answer; out = withText l ((ap (λ (x : Left). x .out) r ∙ w) i) })
   verdicts false e =
-      let r = open-erased aegis128l (keyIn l) (nonceIn l) (adIn l) (textIn l) (tagIn l) (textIn l) parts-sizes (same-not _ _ e) in
-      let n = length-replicate {A = ℕ} (length (textIn l)) 0xaa in
-      let w : onto (replicate (length (textIn l)) 0xaa) (textIn l) ≡ replicate (textEnd l - textStart l) 0xaa
-      = onto-whole (replicate (length (textIn l)) 0xaa) (textIn l) (omega arith) ∙ ap (λ (j : ℕ). replicate j 0xaa) text-length in
+      let r = open-erased aegis128l (partsIn l .key) (partsIn l .nonce) (partsIn l .ad) (partsIn l .text) (partsIn l .tag) (partsIn l .text) parts-sizes (same-not _ _ e) in
+      let n = length-replicate {A = ℕ} (length (partsIn l .text)) 0xaa in
+      let w : onto (replicate (length (partsIn l .text)) 0xaa) (partsIn l .text) ≡ replicate (textEnd l - textStart l) 0xaa
+      = onto-whole (replicate (length (partsIn l .text)) 0xaa) (partsIn l .text) (omega arith) ∙ ap (λ (j : ℕ). replicate j 0xaa) text-length in
       inr (λ i. record { answer = (r i) .answer; out = withText l ((ap (λ (x : Left). x .out) r ∙ w) i) })
 
 -- ---- the theorem

@@ -10,7 +10,7 @@ use Rattle.lent.specs.Lent.{over}
 use Rattle.lent.proofs.Over.{over-same, take-over}
 use Rattle.promises.specs.OneShot.{Left, openInPlaceOf}
 use Rattle.aegis128l.specs.Cipher.{aegis128l}
-use Rattle.hub_record.specs.Record.{headSize, between, openParts}
+use Rattle.hub_record.specs.Record.{between, partsBy, openParts}
 
 -- the bytes from place a up to place e, put over an array of as many bytes, and over the start of a longer one
 module _ (a e : ℕ) (l d : List ℕ) {r : List ℕ} (put : r ≡ over (between a e l) d) (within : e ≤ length l) where
@@ -24,7 +24,7 @@ module _ (a e : ℕ) (l d : List ℕ) {r : List ℕ} (put : r ≡ over (between 
 
 -- the one-shot on copies of the parts, with the ciphertext lent from place a up to place e
 pub parts-opened : (l : List ℕ) (a e r : ℕ) {key nonce ad tag ys : List ℕ} → a ≤ e
-    → key ≡ between 1 17 l → nonce ≡ between 17 33 l → ad ≡ between headSize a l → tag ≡ between e (length l) l
+    → key ≡ partsBy a e l .key → nonce ≡ partsBy a e l .nonce → ad ≡ partsBy a e l .ad → tag ≡ partsBy a e l .tag
     → _≡_ {A = Left} (record { answer = r; out = ys }) (openInPlaceOf aegis128l key nonce ad (between a e l) tag)
     → _≡_ {A = Left} (record { answer = r; out = putMid a (e - a) l ys }) (openParts l a e)
 unfolding openParts

@@ -118,7 +118,7 @@ placed-within t b e q = by (leb (length t) (length b)) refl
         omega (arith, length-append (take s b) (t ++ drop (s + length t) b), length-append t (drop (s + length t) b))
     by false h = omega arith
 
-pub reply-within : (buf : List ℕ) (n : ℕ) → (replyOf buf n) .start + (replyOf buf n) .length ≤ length ((replyOf buf n) .buf)
+reply-within : (buf : List ℕ) (n : ℕ) → (replyOf buf n) .start + (replyOf buf n) .length ≤ length ((replyOf buf n) .buf)
 unfolding replyOf
 reply-within buf n =
     let l = take n buf in

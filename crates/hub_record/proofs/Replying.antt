@@ -34,14 +34,14 @@ module _ (buf : List ℕ) (n : ℕ) where
   abbrev left : RecordLeft
   left = openRecordOf (take n buf)
 
-  pub reply-refused : (left .answer ≡ 0 → ⊥) → placed (line refusedWord (left .answer)) 0 (left .input ++ drop n buf) ≡ replyOf buf n
+  reply-refused : (left .answer ≡ 0 → ⊥) → placed (line refusedWord (left .answer)) 0 (left .input ++ drop n buf) ≡ replyOf buf n
   unfolding replyOf
   reply-refused z =
       let w = refused-nowhere (take n buf) z in
       let p : 0 ≡ left .start + left .length = omega (arith, w .start, w .length) in
       λ i. placed (sym (text-refused left z) i) (p i) (left .input ++ drop n buf)
 
-  pub reply-opened : left .answer ≡ 0
+  reply-opened : left .answer ≡ 0
       → placed (line openedWord (left .length) ++ between (left .start) (left .start + left .length) (left .input ++ drop n buf))
       (left .start + left .length) (left .input ++ drop n buf)
       ≡ replyOf buf n

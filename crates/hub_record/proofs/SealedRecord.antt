@@ -19,10 +19,14 @@ use Rattle.promises.proofs.OpenAnswers.{open-zero}
 use Rattle.promises.proofs.OneForm.{seals, Done, seal-writes, opens-to, done-zeros}
 use Rattle.aegis128l.specs.Cipher.{aegis128l}
 use Rattle.hub_record.specs.Record.{adLimit, textLimit, headSize, between, tagSizeIn, adLengthIn, textStart, textEnd, shape}
-use Rattle.hub_record.specs.Record.{keyIn, nonceIn, adIn, textIn, tagIn, RecordLeft, recordOf, openParts, openRecordOf}
+use Rattle.hub_record.specs.Record.{partsBy, partsIn, RecordLeft, openParts, openRecordOf}
 use Rattle.hub_record.proofs.RecordShape.{ok-shape, tag-within}
 use Rattle.hub_record.proofs.RecordAnswers.{verdict-opened, opens}
 use Rattle.hub_record.proofs.RecordLeaves.{plainIn}
+
+-- a record made of its parts; `parts-read` shows that it has the layout that is read
+unfoldable pub recordOf : List ℕ → List ℕ → List ℕ → List ℕ → List ℕ → List ℕ
+recordOf key nonce ad text tag = length tag ∷ (key ++ (nonce ++ (length ad % 256 ∷ length ad / 256 ∷ (ad ++ (text ++ tag)))))
 
 -- the part that stands behind p
 between-at : (p x q : List ℕ) (a e : ℕ) → length p ≡ a → length x ≡ e - a → between a e (p ++ (x ++ q)) ≡ x
@@ -52,7 +56,7 @@ module _ (key nonce ad text tag : List ℕ) (fit : Fitting key nonce ad text tag
   front-length : length front ≡ 33
   front-length = length-append (length tag ∷ key) nonce ∙ omega (arith, fit .key-size, fit .nonce-size)
 
-  head-length : length head ≡ 35
+  head-length : length head ≡ headSize
   head-length = length-append front (length ad % 256 ∷ length ad / 256 ∷ []) ∙ omega (arith, front-length)
 
   -- by its head; by its front; and with the AD, and the text, before the cut
@@ -69,21 +73,21 @@ module _ (key nonce ad text tag : List ℕ) (fit : Fitting key nonce ad text tag
   cut-text : whole ≡ ((head ++ ad) ++ text) ++ tag
   cut-text = cut-ad ∙ sym (append-assoc (head ++ ad) text tag)
 
-  length-ad : length (head ++ ad) ≡ 35 + length ad
+  length-ad : length (head ++ ad) ≡ headSize + length ad
   length-ad = length-append head ad ∙ ap (λ (n : ℕ). n + length ad) head-length
 
-  length-text : length ((head ++ ad) ++ text) ≡ 35 + length ad + length text
+  length-text : length ((head ++ ad) ++ text) ≡ headSize + length ad + length text
   length-text = length-append (head ++ ad) text ∙ ap (λ (n : ℕ). n + length text) length-ad
 
-  pub record-of-length : length whole ≡ 35 + length ad + length text + length tag
+  record-of-length : length whole ≡ headSize + length ad + length text + length tag
   record-of-length = ap length cut-text ∙ length-append ((head ++ ad) ++ text) tag ∙ ap (λ (n : ℕ). n + length tag) length-text
 
   -- the numbers of its head
-  pub tag-size-is : tagSizeIn whole ≡ length tag
+  tag-size-is : tagSizeIn whole ≡ length tag
   unfolding recordOf
   tag-size-is = refl
 
-  pub ad-length-is : adLengthIn whole ≡ length ad
+  ad-length-is : adLengthIn whole ≡ length ad
   ad-length-is =
       let low : getD whole 33 0 ≡ length ad % 256
       = ap (λ (l : List ℕ). getD l 33 0) cut-front
@@ -95,20 +99,20 @@ module _ (key nonce ad text tag : List ℕ) (fit : Fitting key nonce ad text tag
       omega arith
 
   abbrev start : ℕ
-  start = 35 + length ad
+  start = headSize + length ad
 
   abbrev end : ℕ
-  end = 35 + length ad + length text
+  end = headSize + length ad + length text
 
   start-is : start ≡ textStart whole
-  start-is = ap (λ (n : ℕ). 35 + n) (sym ad-length-is)
+  start-is = ap (λ (n : ℕ). headSize + n) (sym ad-length-is)
 
   end-is : end ≡ textEnd whole
   end-is = let n = record-of-length in let t = tag-size-is in omega arith
 
   shaped : shape (length whole) (tagSizeIn whole) (adLengthIn whole) ≡ 0
   shaped =
-      let n : length whole ≡ 35 + length ad + length text + length tag = record-of-length in
+      let n : length whole ≡ headSize + length ad + length text + length tag = record-of-length in
       let t : tagSizeIn whole ≡ length tag = tag-size-is in
       let a : adLengthIn whole ≡ length ad = ad-length-is in
       let w : length tag ≤ 32 = tag-within (length tag) (fit .tag-size) in
@@ -122,7 +126,7 @@ module _ (key nonce ad text tag : List ℕ) (fit : Fitting key nonce ad text tag
         text-fits = omega (arith, fit .text-fits);
       })
 
-  -- its parts
+  -- its parts, each where the layout has it
   key-is : between 1 17 whole ≡ key
   unfolding recordOf
   key-is = between-at (length tag ∷ []) key _ 1 17 refl (fit .key-size)
@@ -143,13 +147,15 @@ module _ (key nonce ad text tag : List ℕ) (fit : Fitting key nonce ad text tag
       ap (between end (length whole)) (cut-text ∙ ap (λ (x : List ℕ). ((head ++ ad) ++ text) ++ x) (sym (append-nil tag)))
       ∙ between-at ((head ++ ad) ++ text) tag [] end (length whole) length-text (omega arith)
 
-  made : (msg : List ℕ)
-      → length tag ∷ (key ++ (nonce ++ (length ad % 256 ∷ length ad / 256 ∷ (ad ++ (msg ++ tag))))) ≡ recordOf key nonce ad msg tag
-  unfolding recordOf
-  made msg = refl
+  reads : partsBy start end whole ≡ record { key = key; nonce = nonce; ad = ad; text = text; tag = tag }
+  reads = λ i. record { key = key-is i; nonce = nonce-is i; ad = ad-is i; text = text-is i; tag = tag-is i }
+
+  pub parts-read : partsIn whole ≡ record { key = key; nonce = nonce; ad = ad; text = text; tag = tag }
+  parts-read = sym (λ i. partsBy (start-is i) (end-is i) whole) ∙ reads
 
   -- with another text in the place of its own
   replaced : (msg : List ℕ) → take start whole ++ (msg ++ drop end whole) ≡ recordOf key nonce ad msg tag
+  unfolding recordOf
   replaced msg =
       (λ i.
       (ap (take start) cut-ad ∙ take-at (head ++ ad) (text ++ tag) start length-ad) i
@@ -157,7 +163,6 @@ module _ (key nonce ad text tag : List ℕ) (fit : Fitting key nonce ad text tag
       ∙ append-assoc head ad (msg ++ tag)
       ∙ append-assoc front (length ad % 256 ∷ length ad / 256 ∷ []) (ad ++ (msg ++ tag))
       ∙ append-assoc (length tag ∷ key) nonce (length ad % 256 ∷ length ad / 256 ∷ (ad ++ (msg ++ tag)))
-      ∙ made msg
 
   -- ---- a sealed form opens
 
@@ -178,7 +183,7 @@ module _ (key nonce ad text tag : List ℕ) (fit : Fitting key nonce ad text tag
     parts-are : openParts whole start end ≡ record { answer = 0; out = recordOf key nonce ad msg tag }
     unfolding openParts
     parts-are =
-        let r = (λ i. openInPlaceOf aegis128l (key-is i) (nonce-is i) (ad-is i) (text-is i) (tag-is i)) ∙ opened in
+        let r = (λ i. let p = reads i in openInPlaceOf aegis128l (p .key) (p .nonce) (p .ad) (p .text) (p .tag)) ∙ opened in
         (λ i. record { answer = (r i) .answer; out = take start whole ++ ((r i) .out ++ drop end whole) })
         ∙ ap (λ (x : List ℕ). record { answer = 0; out = x }) (replaced msg)
 
@@ -231,12 +236,12 @@ opened-witness msg t = (
 -- ---- the other way round: a record that opens holds the sealed form of its plaintext
 
 accepted-parts : (l : List ℕ) → (openParts l (textStart l) (textEnd l)) .answer ≡ 0
-    → (openInPlaceOf aegis128l (keyIn l) (nonceIn l) (adIn l) (textIn l) (tagIn l)) .answer ≡ 0
+    → (openInPlaceOf aegis128l (partsIn l .key) (partsIn l .nonce) (partsIn l .ad) (partsIn l .text) (partsIn l .tag)) .answer ≡ 0
 unfolding openParts
 accepted-parts l e = e
 
 pub opened-record-sealed : (l : List ℕ) → (openRecordOf l) .answer ≡ 0
-    → SealedForm aegis128l (keyIn l) (nonceIn l) (adIn l) (plainIn l) (textIn l) (tagIn l)
+    → SealedForm aegis128l (partsIn l .key) (partsIn l .nonce) (partsIn l .ad) (plainIn l) (partsIn l .text) (partsIn l .tag)
 opened-record-sealed l h =
-    let z = open-zero aegis128l (keyIn l) (nonceIn l) (adIn l) (textIn l) (tagIn l) (textIn l) (accepted-parts l (opens l h .accepted)) in
-    due-form aegis128l (keyIn l) (nonceIn l) (adIn l) (textIn l) (tagIn l) (z .0 .msg-fits) (z .1)
+    let z = open-zero aegis128l (partsIn l .key) (partsIn l .nonce) (partsIn l .ad) (partsIn l .text) (partsIn l .tag) (partsIn l .text) (accepted-parts l (opens l h .accepted)) in
+    due-form aegis128l (partsIn l .key) (partsIn l .nonce) (partsIn l .ad) (partsIn l .text) (partsIn l .tag) (z .0 .msg-fits) (z .1)

@@ -3,7 +3,7 @@
 -- Assumes nothing.
 use Prim.Native.Nat.{ℕ}
 use mathlib.Core.List.{List, _++_}
-use Rattle.aegis128l.specs.Aegis128L.{le64}
+use Rattle.machine.specs.Lengths.{le64}
 
 unfoldable pub nonceOf : ℕ → ℕ → List ℕ
 nonceOf scale number = le64 scale ++ le64 number

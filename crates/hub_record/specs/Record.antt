@@ -1,8 +1,8 @@
 -- The hub record of document 01 ("Nonce rule and hub program"): its limits, its layout, the order of its refusals, and what opening it
 -- leaves, by the one-shot opening of its parts.
 -- Assumes nothing.
-use Prim.Native.Nat.{ℕ, _+_, _*_, _-_, _/_, _%_}
-use mathlib.Core.List.{List, _∷_, _++_}
+use Prim.Native.Nat.{ℕ, _+_, _*_, _-_}
+use mathlib.Core.List.{List, _++_}
 use lib.Dec.{leb}
 use lib.ListN.{length, take, drop, getD}
 use Rattle.answers.specs.Answers.{unless, tagSize}
@@ -43,25 +43,26 @@ textStart l = headSize + adLengthIn l
 abbrev pub textEnd : List ℕ → ℕ
 textEnd l = length l - tagSizeIn l
 
-abbrev pub keyIn : List ℕ → List ℕ
-keyIn l = between 1 17 l
+pub record Parts : Type 0 where
+  pub key : List ℕ
+  pub nonce : List ℕ
+  pub ad : List ℕ
+  pub text : List ℕ
+  pub tag : List ℕ
 
-abbrev pub nonceIn : List ℕ → List ℕ
-nonceIn l = between 17 33 l
+-- the parts, where the ciphertext goes from place a up to place e
+abbrev pub partsBy : ℕ → ℕ → List ℕ → Parts
+partsBy a e l = record {
+  key = between 1 17 l;
+  nonce = between 17 33 l;
+  ad = between headSize a l;
+  text = between a e l;
+  tag = between e (length l) l;
+}
 
-abbrev pub adIn : List ℕ → List ℕ
-adIn l = between headSize (textStart l) l
-
-abbrev pub textIn : List ℕ → List ℕ
-textIn l = between (textStart l) (textEnd l) l
-
-abbrev pub tagIn : List ℕ → List ℕ
-tagIn l = between (textEnd l) (length l) l
-
--- a record made of its parts
-unfoldable pub recordOf : List ℕ → List ℕ → List ℕ → List ℕ → List ℕ → List ℕ
-recordOf key nonce ad text tag =
-    length tag ∷ (key ++ (nonce ++ (length ad % 256 ∷ length ad / 256 ∷ (ad ++ (text ++ tag)))))
+-- and where the head says that it goes
+abbrev pub partsIn : List ℕ → Parts
+partsIn l = partsBy (textStart l) (textEnd l) l
 
 -- ---- the order of refusals, on the input's length, the tag size and the AD length: over or under the limits is 11; AD length over its
 -- limit is 11; tag size is 1; too few bytes left for AD and tag is 11; ciphertext over its limit is 11
@@ -84,10 +85,11 @@ pub record RecordLeft : Type 0 where
   pub length : ℕ
   pub input : List ℕ
 
--- the parts of a record whose ciphertext goes from place a up to place e, opened in place: no byte but the ciphertext's changes
+-- these parts opened in place: no byte but the ciphertext's changes
 unfoldable pub openParts : List ℕ → ℕ → ℕ → Left
 openParts l a e =
-    let r = openInPlaceOf aegis128l (keyIn l) (nonceIn l) (between headSize a l) (between a e l) (between e (length l) l) in
+    let p = partsBy a e l in
+    let r = openInPlaceOf aegis128l (p .key) (p .nonce) (p .ad) (p .text) (p .tag) in
     record { answer = r .answer; out = take a l ++ (r .out ++ drop e l) }
 
 abbrev pub refusedRecord : List ℕ → ℕ → RecordLeft

@@ -1,11 +1,11 @@
 -- Lists of numbers below 256, and machines that keep to them: where keystream and states are of bytes, so is all that comes out for bytes.
 -- Assumes nothing.
 use Prim.Native.Nat.{ℕ, zero, suc, _-_, _<_}
-use mathlib.Core.Path.{_≡_, subst}
+use mathlib.Core.Path.{subst}
 use mathlib.Core.Bool.{Bool, true, false}
 use mathlib.Core.List.{List, [], _∷_, _++_}
 use lib.Dec.{eqb, lit<}
-use lib.ListN.{length, getD, set, take, replicate}
+use lib.ListN.{length, getD, set, take}
 use lib.Bits.{bitXor, bitAnd, xor-lt, and-lt}
 use Rattle.machine.specs.Bytes.{zeros, padTo, Bytes}
 use Rattle.machine.specs.Machine.{Machine, Core, Mode, enc, dec, plain, start, current, key, code, settled, next, after, out, close}
@@ -27,7 +27,7 @@ pub bytes-append : (xs ys : List ℕ) → Bytes xs → Bytes ys → Bytes (xs ++
 bytes-append [] ys a b = b
 bytes-append (x ∷ xs) ys a b = (a .0, bytes-append xs ys (a .1) b)
 
-pub bytes-zeros : (n : ℕ) → Bytes (zeros n)
+bytes-zeros : (n : ℕ) → Bytes (zeros n)
 bytes-zeros zero = tt
 bytes-zeros (suc n) = (lit< tt, bytes-zeros n)
 

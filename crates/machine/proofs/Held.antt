@@ -1,7 +1,7 @@
 -- What the buffer of a core holds, after any bytes: below the fill the last bytes of the message, above it the keystream that is not used yet, and
 -- at fill 0 zeros.
 -- Assumes nothing.
-use Prim.Native.Nat.{ℕ, zero, suc, _+_, _-_, _≤_, _<_}
+use Prim.Native.Nat.{ℕ, zero, suc, _-_, _<_}
 use mathlib.Core.Path.{_≡_, refl, sym, ap, subst, _∙_}
 use mathlib.Core.Logic.{_⊎_, inl, inr}
 use mathlib.Core.List.{List, [], _∷_, _++_, append-assoc, append-nil}
@@ -84,7 +84,7 @@ module _ {S : Type 0} (M : Machine S) where
   -- ---- many bytes more
 
   module _ (m : Mode) where
-    pub held-next : (p : List ℕ) (c : Core S) (x : ℕ) → WellFormed M c → Held M p c → Held M (p ++ (plain m x (code M c x) ∷ [])) (next M m c x)
+    held-next : (p : List ℕ) (c : Core S) (x : ℕ) → WellFormed M c → Held M p c → Held M (p ++ (plain m x (code M c x) ∷ [])) (next M m c x)
     unfolding next
     held-next p c x w h = held-settled p c w h (plain m x (code M c x))
 

@@ -5,8 +5,8 @@ use mathlib.Core.Path.{refl, ap}
 use native.Mathlib.Omega.{arith}
 use borrow.Author.Needs.{needs}
 use lib.ListN.{length}
+use Rattle.machine.proofs.Lengths.{lengths-joined}
 use Rattle.aegis128l.proofs.Halves.{Laid, begun, stored, both}
-use Rattle.aegis128l.proofs.Tags.{lengths-joined}
 use Rattle.aegis128l.proofs.tag.length_block.Statement.{statement}
 use Rattle.aegis128l.proofs.tag.length_block.Tie as tie
 
