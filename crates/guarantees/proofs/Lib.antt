@@ -1,4 +1,5 @@
 -- What a user may rely on.
+pub mod Contracts
 pub mod Sizes
 pub mod Outcomes
 pub mod Sealing

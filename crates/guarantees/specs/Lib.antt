@@ -1,3 +1,4 @@
 -- The calls that the guarantees speak of.
+pub mod Contracts
 pub mod Calls
 pub mod CodeTrace
