@@ -24,6 +24,7 @@ use types.Run.{returns, enter, alloc1, alloc0, params1, pass1, pass0, free1, fre
 use types.Part.{whole, sub, look-in}
 use types.SemTy.{Body}
 use sound.WpLaws.{FmC}
+use denote.RattleType.{RattleType}
 use denote.Memory.{mem, pointee}
 use denote.Laws.{Is, shows}
 use denote.Steps.{opens, closes, owned, peeks, heard, nothing}
@@ -31,10 +32,7 @@ use denote.Struct.Steps.{spelt}
 use denote.Struct.Laws as LL
 use denote.Triple.Statement.{Contract, Triple}
 use denote.Triple.Call.{calls-at}
-use Rattle.session.specs.declared.Session.{Session}
-use Rattle.session.proofs.Session as T
-use Rattle.session.proofs.Session.Laws as T′
-use Rattle.thin.proofs.Lent.{v, R, mach, Handing, typed, pmir}
+use Rattle.thin.proofs.Lent.{v, row-of, cell-of, value-of, value-typed, Handing, pair-of}
 
 -- ---- the parameters: their machine values, and the blocks in which they lie
 abbrev pub Vs : List Ty → Type 0
@@ -131,27 +129,42 @@ module _ {M : Type 1} {𝓤 : URA M} {H : Heap 𝓤} {A : Atoms 𝓤} (W : Given
   found {Γ} {E} {i} {st} {sp} {sp′} e w = from ! (subst (λ (s : Spot 𝓤 H). Walks (Go {0}) W Γ E s st sp′) (sym e) w)
 
 module _ (D : Handing) (τs : List Ty) where
+  abbrev S : Type 0
+  S = D .lent .type .D
+
+  abbrev R : RattleType
+  R = row-of (D .lent)
+
+  abbrev mach : S → Val
+  mach = value-of (D .lent)
+
+  abbrev cell : Ty
+  cell = cell-of (D .lent)
+
+  abbrev pmir : Ty
+  pmir = pair-of D
+
   abbrev pub start-body : ℕ → Name → Fn
   start-body n k = record {
     lifetimes = n;
     outlives = [];
     params = suc (length τs);
-    locals = v (D .xmir) ∷ v (tyRef (named 0) mut (pointee (R .written))) ∷ locals-of τs (v (pmir D) ∷ []);
+    locals = v (D .xmir) ∷ v (tyRef (named 0) mut (pointee (R .written))) ∷ locals-of τs (v pmir ∷ []);
     body = seq (call k (copies 2 τs) (place (past 2 τs) []))
-        (seq (assign (place 1 (deref T′.mir ∷ [])) (rvOpd (copy (place (past 2 τs) (field 1 ∷ [])))))
+        (seq (assign (place 1 (deref cell ∷ [])) (rvOpd (copy (place (past 2 τs) (field 1 ∷ [])))))
         (seq (assign (place 0 []) (rvOpd (copy (place (past 2 τs) (field 0 ∷ []))))) return));
   }
 
   module _ {M : Type 1} (𝓤 : URA M) (H : Heap 𝓤) where
     abbrev pub frame-of : ℕ → ℕ → Bs τs → ℕ → Env 𝓤 H
-    frame-of l₀ l₁ bs lᵣ = (D .xmir, l₀) ∷ (tyRef (named 0) mut (pointee (R .written)), l₁) ∷ envs 𝓤 H τs bs ((pmir D, lᵣ) ∷ [])
+    frame-of l₀ l₁ bs lᵣ = (D .xmir, l₀) ∷ (tyRef (named 0) mut (pointee (R .written)), l₁) ∷ envs 𝓤 H τs bs ((pmir, lᵣ) ∷ [])
 
     abbrev pub Laid : Type 0
     Laid = (l₀ l₁ : ℕ) (bs : Bs τs) (lᵣ : ℕ) → Spots 𝓤 H (frame-of l₀ l₁ bs lᵣ) 2 τs bs
-        × (_≡_ {A = Spot 𝓤 H} (spotOf 𝓤 H (frame-of l₀ l₁ bs lᵣ) (past 2 τs)) (pmir D, lᵣ, 0))
+        × (_≡_ {A = Spot 𝓤 H} (spotOf 𝓤 H (frame-of l₀ l₁ bs lᵣ) (past 2 τs)) (pmir, lᵣ, 0))
 
   module _ {M : Type 1} (𝓤 : URA M) (H : Heap 𝓤) (A : Atoms 𝓤) (W : Given 𝓤 H A) (n : ℕ) (k : Name) (C : Calls 𝓤 H) (Λ : Loops 𝓤 H) (fm : FmC 𝓤 H (W .laws) C)
-      (κ : Lft) (q : Share) (b o : ℕ) (γ : GName) (h : Session) (vs : Vs τs) (c : Contract 𝓤) (known : Triple 𝓤 (C k) c) (x : c .Ghost)
+      (κ : Lft) (q : Share) (b o : ℕ) (γ : GName) (h : S) (vs : Vs τs) (c : Contract 𝓤) (known : Triple 𝓤 (C k) c) (x : c .Ghost)
       (args : c .args x ≡ listed τs vs) (laid : Laid 𝓤 H) (Back : SProp 𝓤) (F : D .row .Denot → Type 0)
       (gives : (w : Val) → ent 𝓤 (c .post x w) (mean 𝓤 H A (later (some (λ (r : D .row .Denot). (raw Back ⊛ ‵ (D .row .own r (w ∷ []))) ⊛ raw (fact 𝓤 (F r))))))) where
     abbrev pub Ended-at : D .row .Denot → List (Item 𝓤)
@@ -178,18 +191,18 @@ module _ (D : Handing) (τs : List Ty) where
         let fields = D .parts r w is in
         -- [what comes back; the parameters; _r (2); …; _1 (4); …; _0 (6); …; obs (8); the borrow; its token]
         land ! (found W (at .1) (stop !)) (init ! 2 refl (D .typed 𝓤 H A W r w is)) $
-        rewrite ! 2 (λ (u : Val). ‵ (fat fullShare (pmir D) lᵣ 0 u)) (D .told r w is) refl $
+        rewrite ! 2 (λ (u : Val). ‵ (fat fullShare pmir lᵣ 0 u)) (D .told r w is) refl $
         move ! (8 ∷ 9 ∷ 10 ∷ []) $
-        opens ! tt R {h = h} b o (λ us. spelt ! R (Is R) (shows 𝓤 H A R) (LL.vals T.the-type T′.the-laws)
-        (LL.tells T.the-type T′.the-laws) fullShare h us b o $ move ! (1 ∷ []) $ drop ! $
+        opens ! tt R {h = h} b o (λ us. spelt ! R (Is R) (shows 𝓤 H A R) (LL.vals (D .lent .type) (D .lent .laws))
+        (LL.tells (D .lent .type) (D .lent .laws)) fullShare h us b o $ move ! (1 ∷ []) $ drop ! $
         -- [the session's cell; the open borrow; obs; auth; what comes back (4); the parameters; _r (6); …; _1 (8); …; _0 (10); …]
         assigns ! (of-opd ! (load ! (found W (at .1) (fld ! refl (stop !)))
         (look-in ! 6 (sub ! 1 refl (whole !)))))
-        (from ! (hop ! (look ! 8 refl) (stop !))) (store-raw ! 0 refl (typed 𝓤 H A W (D .session r) (fields .1))) $
+        (from ! (hop ! (look ! 8 refl) (stop !))) (store-raw ! 0 refl (value-typed (D .lent) 𝓤 H A W (D .session r) (fields .1))) $
         assigns ! (of-opd ! (load ! (found W (at .1) (fld ! refl (stop !)))
         (look-in ! 6 (sub ! 0 refl (whole !))))) (from ! (stop !))
         (init ! 10 refl (D .x-typed 𝓤 H A W (D .out r) (fields .0))) $
-        owned ! R (Is R) (LL.makes T.the-type T′.the-plain 𝓤 H A) (D .session r) _ (fields .1) $ move ! (1 ∷ 0 ∷ []) $
+        owned ! R (Is R) (LL.makes (D .lent .type) (D .lent .plain) 𝓤 H A) (D .session r) _ (fields .1) $ move ! (1 ∷ 0 ∷ []) $
         closes ! tt R (D .session r) (mach (D .session r) ∷ []) b o $
         -- [obs; the borrow; its token; what comes back; the parameters (4); _r (5); …; _1 (7); …; _0 (9); …]
         returns ! (look ! 9 refl) $ forget ! 5 refl $ forget ! 7 refl $ forget ! 9 refl $

@@ -18,7 +18,7 @@ use types.Kit.{Given, Item, Goal, Go, Seq, mean, ‵, raw, _⊛_, some, later, �
 use types.Kit.{fsplit, fsplit3, fjoin, fjoin3, feqI, suffices, frame, await, updating, now as at-once, show, done}
 use types.SemTy.{Body}
 use sound.WpLaws.{FmC, fmOf, WpFn-mono}
-use denote.RattleType.{Denots, Valss, owns, flat}
+use denote.RattleType.{RattleType, Denots, Valss, owns, flat}
 use denote.Memory.{mem}
 use denote.Laws.{Is, Ises, Are, Spells, Tellss, valss}
 use denote.Builtin.{RefMutOf}
@@ -32,8 +32,7 @@ use denote.Triple.Statement.{Contract, Triple}
 use denote.Triple.Clauses.{Ended, Clauses, ensured, lasts, closing}
 use denote.Triple.Walked.{says, Stays, stay-ref, stay-dropped, fitsOf, hasOf, walkOf, AllGo, goes-ref, goes-dropped, Walks, ends-at, walked, walk-meets}
 use denote.Exit.{yes, left}
-use Rattle.session.specs.declared.Session.{Session}
-use Rattle.thin.proofs.Lent.{R, Handing}
+use Rattle.thin.proofs.Lent.{row-of, Handing}
 use Rattle.thin.proofs.LentStart.{Vs, listed, start-body, Laid, Ended-at, start-walk}
 
 -- ---- parameters of which nothing is said at exit, and nothing is kept
@@ -82,6 +81,12 @@ pub record Shape (D : Handing) : Type 2 where
   pub laid : {M : Type 1} (𝓤 : URA M) (H : Heap 𝓤) → Laid D τs 𝓤 H
 
 module _ (D : Handing) (Sh : Shape D) where
+  abbrev S : Type 0
+  S = D .lent .type .D
+
+  abbrev R : RattleType
+  R = row-of (D .lent)
+
   open Shape Sh using (n, ss, ts, τs)
 
   abbrev pub core-ended : Ended
@@ -118,8 +123,8 @@ module _ (D : Handing) (Sh : Shape D) where
   stayed = (stay-ref (0 ∷ []) tt (plain (λ _. R)), dropped ts)
 
   module _ {M : Type 1} (𝓤 : URA M) (H : Heap 𝓤) (A : Atoms 𝓤) (W : Given 𝓤 H A) (E : Effect) (κs : Lfts (suc n)) (qs : Shares (suc n)) (b o : ℕ) (γ : GName)
-      (h : Session) (a : Denots (typesAt ts κs)) where
-    abbrev a′ : RefT Session × Denots (typesAt ts κs)
+      (h : S) (a : Denots (typesAt ts κs)) where
+    abbrev a′ : RefT S × Denots (typesAt ts κs)
     a′ = (record { ptr = (b, o); name = γ; now = h }, a)
 
     abbrev us : Valss (typesAt ts κs)
