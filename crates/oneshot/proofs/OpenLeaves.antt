@@ -6,14 +6,14 @@ use mathlib.Core.Path.{_≡_, sym, ap, _∙_}
 use mathlib.Core.Bool.{Bool, true, false}
 use mathlib.Core.List.{List, _++_}
 use native.Mathlib.Omega.{arith}
-use lib.ListN.{length, take, drop, replicate, length-append, length-drop, length-replicate}
+use lib.ListN.{length, take, drop, replicate, length-replicate}
 use lib.Seq.{drop-at}
 use Rattle.answers.specs.Answers.{oneShot}
 use Rattle.answers.proofs.Answers.{one-shot-ok}
 use Rattle.lent.specs.Lent.{over, wiped, same}
 use Rattle.lent.proofs.Wiped.{wiped-fits}
 use Rattle.promises.specs.Cipher.{Cipher}
-use Rattle.promises.specs.OneShot.{Left, onto, verdict, plaintext, openTag, openOf}
+use Rattle.promises.specs.OneShot.{onto, verdict, plaintext, openTag, openOf}
 use Rattle.promises.proofs.Ladder.{refuses, does}
 use Rattle.promises.proofs.Onto.{length-onto}
 use Rattle.promises.proofs.Texts.{plaintext-length}

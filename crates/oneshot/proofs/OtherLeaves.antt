@@ -1,21 +1,20 @@
 -- What the streams and the MAC leave, for any cipher, from what their steps leave.
 -- Assumes nothing.
 use Prim.Native.Nat.{ℕ}
-use mathlib.Core.Path.{_≡_, refl, sym, ap, _∙_}
-use mathlib.Core.Bool.{Bool, true, false}
+use mathlib.Core.Path.{_≡_, sym, ap, _∙_}
+use mathlib.Core.Bool.{Bool}
 use mathlib.Core.List.{List, _++_, append-nil}
 use native.Mathlib.Nat.{le-refl}
-use lib.ListN.{length, drop, replicate}
+use lib.ListN.{length}
 use lib.Seq.{drop-length}
 use Rattle.machine.specs.Bytes.{zeros}
-use Rattle.machine.specs.Machine.{Machine}
-use Rattle.machine.specs.Kinds.{keystream, streamXor}
+use Rattle.machine.specs.Kinds.{streamXor}
 use Rattle.machine.proofs.Stream.{streamXor-zeros}
 use Rattle.answers.specs.Answers.{stream, mac, unless}
 use Rattle.lent.specs.Lent.{wiped, same}
 use Rattle.lent.proofs.Wiped.{wiped-fits}
 use Rattle.promises.specs.Cipher.{Cipher, Mac}
-use Rattle.promises.specs.OneShot.{Left, streamOf, streamXorOf, macTag, macOf, macCheckOf}
+use Rattle.promises.specs.OneShot.{streamOf, streamXorOf, macTag, macOf, macCheckOf}
 use Rattle.promises.proofs.Ladder.{refuses, does}
 use Rattle.oneshot.specs.Leaves.{left}
 

@@ -1,11 +1,11 @@
 -- What the steps of a one-shot come to, for any cipher: the state after key, nonce and data, the machine over a text in place, and the tag at the end.
 -- Assumes nothing.
 use Prim.Native.Nat.{ℕ}
-use mathlib.Core.Path.{_≡_, refl, sym, ap, _∙_}
+use mathlib.Core.Path.{_≡_, refl, ap, _∙_}
 use mathlib.Core.List.{List, [], _∷_}
 use native.Mathlib.Nat.{suc-ne-zero}
 use lib.ListN.{length}
-use Rattle.machine.specs.Machine.{Machine, Core, Mode, enc, dec, start, after, out, close}
+use Rattle.machine.specs.Machine.{Core, Mode, enc, dec, start, after, out, close}
 use Rattle.machine.specs.Draft.{draftAbsorb}
 use Rattle.machine.proofs.Cutting.{out-length}
 use Rattle.machine.proofs.Draft.{absorbs, encrypts, decrypts, decrypts-state}

@@ -1,10 +1,9 @@
 -- `aegis128l_seal` meets its contract: a refusal changes nothing; else the message is laid over the output and sealed there.
 -- Assumes nothing.
-use Prim.Native.Nat.{_-_, _≤_}
-use mathlib.Core.Path.{_≡_, sym, _∙_}
+use Prim.Native.Nat.{_-_}
+use mathlib.Core.Path.{sym, _∙_}
 use native.Mathlib.Omega.{arith}
 use borrow.Author.Needs.{needs}
-use lib.ListN.{length}
 use Rattle.answers.proofs.Answers.{one-shot-ok}
 use Rattle.aegis128l.specs.Cipher.{aegis128l}
 use Rattle.oneshot.proofs.SealLeaves.{seal-refuses, seals-over}

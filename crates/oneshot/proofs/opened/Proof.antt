@@ -1,6 +1,5 @@
 -- `opened` meets its contract: the machine over the ciphertext in place, and the verdict on its tag.
 -- Assumes nothing.
-use Prim.Native.Nat.{_≤_}
 use mathlib.Core.Path.{ap, _∙_}
 use native.Mathlib.Omega.{arith}
 use borrow.Author.Needs.{needs}

@@ -1,6 +1,5 @@
 -- `sealed` meets its contract: the machine over the message in place, and the tag at the end.
 -- Assumes nothing.
-use Prim.Native.Nat.{_≤_}
 use mathlib.Core.Path.{ap, _∙_}
 use native.Mathlib.Omega.{arith}
 use borrow.Author.Needs.{needs}
