@@ -104,13 +104,13 @@ module _ (D : Handing) (Sh : Shape D) where
   abbrev R : RattleType
   R = row-of (D .lent)
 
-  abbrev body-of : Name → Fn
+  abbrev pub body-of : Name → Fn
   body-of k = thin-body D τs temps before opds (suc n) k
 
   abbrev core-ended : Ended
   core-ended = record { signature = record { lifetimes = n; outlives = []; params = core; result = plain (λ _. D .row) }; kept = all yes core }
 
-  abbrev thin-ended : Ended
+  abbrev pub thin-ended : Ended
   thin-ended = record {
     signature = record {
       lifetimes = suc n;
@@ -127,7 +127,7 @@ module _ (D : Handing) (Sh : Shape D) where
   abbrev core-clauses : {M : Type 1} (𝓤 : URA M) → Effect → Clauses 𝓤 core-ended
   core-clauses 𝓤 E κs a = record { ghost = Unit {0}; requires = λ _. emp 𝓤; ensures = λ _ r e. fact 𝓤 (E κs a r (Sh .core-shows κs e)) }
 
-  abbrev thin-clauses : {M : Type 1} (𝓤 : URA M) → Effect → Clauses 𝓤 thin-ended
+  abbrev pub thin-clauses : {M : Type 1} (𝓤 : URA M) → Effect → Clauses 𝓤 thin-ended
   thin-clauses 𝓤 E κs a = record {
     ghost = Unit {0};
     requires = λ _. emp 𝓤;
