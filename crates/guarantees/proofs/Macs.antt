@@ -1,9 +1,8 @@
 -- What a user of the MAC and of stream xor may rely on.
 -- Assumes nothing.
-use Prim.Native.Nat.{ℕ}
 use mathlib.Core.Path.{_≡_, sym, ap, _∙_}
 use mathlib.Core.Logic.{_≢_}
-use mathlib.Core.List.{List, []}
+use mathlib.Core.List.{[]}
 use lib.ListN.{length}
 use Rattle.promises.specs.OneShot.{Left, macOf, macCheckOf, streamXorOf}
 use Rattle.promises.proofs.MacAnswers.{mac-done}

@@ -9,7 +9,9 @@ use denote.Builtin.{u8}
 use denote.Steps.{only}
 use denote.Struct.Laws as LL
 use Rattle.thin.specs.Left as left
-use Rattle.thin.proofs.Lent.{Handing}
+use Rattle.thin.proofs.Lent.{Lendable, Handing}
+use Rattle.session.proofs.Session as T
+use Rattle.session.proofs.Session.Laws as T′
 use Rattle.session.proofs.Piece as P
 use Rattle.session.proofs.Piece.Laws as P′
 use Rattle.session.proofs.Finish as F
@@ -17,8 +19,12 @@ use Rattle.session.proofs.Finish.Laws as F′
 use Rattle.session.proofs.Opened as O
 use Rattle.session.proofs.Opened.Laws as O′
 
+abbrev pub session : Lendable
+session = record { type = T.the-type; laws = T′.the-laws; plain = T′.the-plain }
+
 abbrev pub piece : Handing
 piece = record {
+  lent = session;
   row = P.the-row;
   X = u8;
   name = P.struct .name;
@@ -37,6 +43,7 @@ piece = record {
 
 abbrev pub finish : Handing
 finish = record {
+  lent = session;
   row = F.the-row;
   X = O.the-row;
   name = F.struct .name;

@@ -1,5 +1,5 @@
-// The thin form of sessions: the caller lends its session, and each call changes it in place. Each calls the function by value, and is
-// proved by one walk of the machine code for each shape (proofs/LentInOut.antt, LentIn.antt, LentOut.antt).
+// The thin form of sessions: the caller lends its session, and each call changes it in place. Each calls the function by value. All are proved
+// by one walk over what the compiler makes of them (proofs/Walk.antt), for any struct that is lent.
 ghost use Rattle.promises.specs.Met.{SealStartMet, OpenStartMet, MacStartMet, SealPieceMet, SealPieceInPlaceMet, SealFinishMet, OpenPieceMet, OpenFinishMet, AbortMet, MacPieceMet, MacFinishMet, MacFinishCheckMet};
 ghost use Rattle.aegis128l.specs.Cipher.{aegis128l, aegis128lMac};
 ghost use Rattle.session.specs.View.{sessionOf};

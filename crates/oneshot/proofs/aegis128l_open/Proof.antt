@@ -1,18 +1,18 @@
 -- `aegis128l_open` meets its contract: a refusal changes nothing; else the ciphertext is laid over the output and opened there, and wiped if the tag differs.
 -- Assumes nothing.
-use Prim.Native.Nat.{_-_, _≤_}
-use mathlib.Core.Path.{_≡_, sym, _∙_}
+use Prim.Native.Nat.{_-_}
+use mathlib.Core.Path.{sym, _∙_}
 use native.Mathlib.Omega.{arith}
 use borrow.Author.Needs.{needs}
-use lib.ListN.{length}
 use Rattle.answers.proofs.Answers.{one-shot-ok}
+use Rattle.aegis128l.specs.Cipher.{aegis128l}
 use Rattle.oneshot.proofs.OpenLeaves.{open-refuses, opens-over, erases-over}
 use Rattle.oneshot.proofs.Expected.{part-fits}
 use Rattle.oneshot.proofs.aegis128l_open.Statement.{statement}
 use Rattle.oneshot.proofs.aegis128l_open.Tie as tie
 
 returns : tie.Need-returns
-returns c = open-refuses _ _ _ _ _ _ (c .before .one-shot .ensures) (c .if1 .taken)
+returns c = open-refuses aegis128l _ _ _ _ _ _ (c .before .one-shot .ensures) (c .if1 .taken)
 
 part-opened-end : tie.Need-part-opened-end
 part-opened-end c =
@@ -33,7 +33,7 @@ returns-2 c =
     let o = c .before .before .before in
     let p = o .before .before .before .before in
     let i = p .before .before in
-    opens-over _ _ _ _ _ _ (i .before .one-shot .ensures) (i .if1 .left) (p .put .ensures) (o .opened .ensures .0) (o .opened .ensures .1) (c .if2 .taken)
+    opens-over aegis128l _ _ _ _ _ _ (i .before .one-shot .ensures) (i .if1 .left) (p .put .ensures) (o .opened .ensures .0) (o .opened .ensures .1) (c .if2 .taken)
 
 returns-3 : tie.Need-returns-3
 returns-3 c =
@@ -42,7 +42,7 @@ returns-3 c =
     let o = e .before .before .before in
     let p = o .before .before .before .before in
     let i = p .before .before in
-    erases-over _ _ _ _ _ _ (i .before .one-shot .ensures) (i .if1 .left) (p .put .ensures) (o .opened .ensures .0) (o .opened .ensures .1) (e .if2 .left) (w .wipe .ensures)
+    erases-over aegis128l _ _ _ _ _ _ (i .before .one-shot .ensures) (i .if1 .left) (p .put .ensures) (o .opened .ensures .0) (o .opened .ensures .1) (e .if2 .left) (w .wipe .ensures)
 
 pub aegis128l-open-spec : {M : Type 1} → statement M
 aegis128l-open-spec =

@@ -3,12 +3,13 @@
 use mathlib.Core.Path.{sym, _∙_}
 use borrow.Author.Needs.{needs}
 use Rattle.answers.proofs.Answers.{one-shot-ok}
+use Rattle.aegis128l.specs.Cipher.{aegis128l}
 use Rattle.oneshot.proofs.OpenLeaves.{open-refuses, opens-in-place, erases-in-place}
 use Rattle.oneshot.proofs.aegis128l_open_in_place.Statement.{statement}
 use Rattle.oneshot.proofs.aegis128l_open_in_place.Tie as tie
 
 returns : tie.Need-returns
-returns c = open-refuses _ _ _ _ _ _ (c .before .one-shot .ensures) (c .if1 .taken)
+returns c = open-refuses aegis128l _ _ _ _ _ _ (c .before .one-shot .ensures) (c .if1 .taken)
 
 opened-requires : tie.Need-opened-requires
 opened-requires c κs =
@@ -20,7 +21,7 @@ returns-2 : tie.Need-returns-2
 returns-2 c =
     let o = c .before .before .before in
     let i = o .before .before in
-    opens-in-place _ _ _ _ _ (i .before .one-shot .ensures) (i .if1 .left) (o .opened .ensures .0) (o .opened .ensures .1) (c .if2 .taken)
+    opens-in-place aegis128l _ _ _ _ _ (i .before .one-shot .ensures) (i .if1 .left) (o .opened .ensures .0) (o .opened .ensures .1) (c .if2 .taken)
 
 returns-3 : tie.Need-returns-3
 returns-3 c =
@@ -28,7 +29,7 @@ returns-3 c =
     let e = w .before .before in
     let o = e .before .before .before in
     let i = o .before .before in
-    erases-in-place _ _ _ _ _ (i .before .one-shot .ensures) (i .if1 .left) (o .opened .ensures .0) (o .opened .ensures .1) (e .if2 .left) (w .wipe .ensures)
+    erases-in-place aegis128l _ _ _ _ _ (i .before .one-shot .ensures) (i .if1 .left) (o .opened .ensures .0) (o .opened .ensures .1) (e .if2 .left) (w .wipe .ensures)
 
 pub aegis128l-open-in-place-spec : {M : Type 1} → statement M
 aegis128l-open-in-place-spec =

@@ -1,18 +1,18 @@
 -- `aegis128l_seal` meets its contract: a refusal changes nothing; else the message is laid over the output and sealed there.
 -- Assumes nothing.
-use Prim.Native.Nat.{_-_, _≤_}
-use mathlib.Core.Path.{_≡_, sym, _∙_}
+use Prim.Native.Nat.{_-_}
+use mathlib.Core.Path.{sym, _∙_}
 use native.Mathlib.Omega.{arith}
 use borrow.Author.Needs.{needs}
-use lib.ListN.{length}
 use Rattle.answers.proofs.Answers.{one-shot-ok}
+use Rattle.aegis128l.specs.Cipher.{aegis128l}
 use Rattle.oneshot.proofs.SealLeaves.{seal-refuses, seals-over}
 use Rattle.oneshot.proofs.Expected.{part-fits}
 use Rattle.oneshot.proofs.aegis128l_seal.Statement.{statement}
 use Rattle.oneshot.proofs.aegis128l_seal.Tie as tie
 
 returns : tie.Need-returns
-returns c = seal-refuses _ _ _ _ _ _ (c .before .one-shot .ensures) (c .if1 .taken)
+returns c = seal-refuses aegis128l _ _ _ _ _ _ (c .before .one-shot .ensures) (c .if1 .taken)
 
 part-sealed-end : tie.Need-part-sealed-end
 part-sealed-end c =
@@ -33,7 +33,7 @@ returns-2 c =
     let s = c .before .before .before .before in
     let p = s .before .before .before .before .before in
     let i = p .before .before in
-    seals-over _ _ _ _ _ _ (i .before .one-shot .ensures) (i .if1 .left) (p .put .ensures) (s .sealed .ensures .0) (s .sealed .ensures .1)
+    seals-over aegis128l _ _ _ _ _ _ (i .before .one-shot .ensures) (i .if1 .left) (p .put .ensures) (s .sealed .ensures .0) (s .sealed .ensures .1)
 
 pub aegis128l-seal-spec : {M : Type 1} → statement M
 aegis128l-seal-spec =

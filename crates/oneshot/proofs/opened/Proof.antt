@@ -1,6 +1,5 @@
 -- `opened` meets its contract: the machine over the ciphertext in place, and the verdict on its tag.
 -- Assumes nothing.
-use Prim.Native.Nat.{_≤_}
 use mathlib.Core.Path.{ap, _∙_}
 use native.Mathlib.Omega.{arith}
 use borrow.Author.Needs.{needs}
@@ -9,18 +8,19 @@ use Rattle.machine.specs.Machine.{dec}
 use Rattle.machine.proofs.Cutting.{out-length}
 use Rattle.lent.specs.Lent.{same}
 use Rattle.aegis128l.specs.Aegis128L.{machine}
+use Rattle.aegis128l.specs.Cipher.{aegis128l}
 use Rattle.oneshot.proofs.Texts.{opens, opens-tag}
 use Rattle.oneshot.proofs.Expected.{fresh-fill, fed-fill}
 use Rattle.oneshot.proofs.opened.Statement.{statement}
 use Rattle.oneshot.proofs.opened.Tie as tie
 
 transform-requires : tie.Need-transform-requires
-transform-requires c κs = (search needs, fresh-fill _ _ (c .before .before .start .ensures))
+transform-requires c κs = (search needs, fresh-fill machine _ _ (c .before .before .start .ensures))
 
 close-requires : tie.Need-close-requires
 close-requires c κs =
     let r = c .before .before .before in
-    (search needs, fed-fill dec _ _ _ _ (r .before .before .before .start .ensures) (r .transform .ensures .0))
+    (search needs, fed-fill machine dec _ _ _ _ (r .before .before .before .start .ensures) (r .transform .ensures .0))
 
 verified-requires : tie.Need-verified-requires
 verified-requires c κs =
@@ -37,9 +37,9 @@ returns c =
     let s = r .before .before .before in
     let a = s .before in
     let n = a .before .before in (
-      opens _ _ _ _ (n .new .ensures) (a .absorb-ad .ensures) (s .start .ensures) (r .transform .ensures .1),
+      opens aegis128l _ _ _ _ (n .new .ensures) (a .absorb-ad .ensures) (s .start .ensures) (r .transform .ensures .1),
       c .verified .ensures
-          ∙ ap (same _) (opens-tag _ _ _ _ (n .new .ensures) (a .absorb-ad .ensures) (s .start .ensures) (r .transform .ensures .1) _
+          ∙ ap (same _) (opens-tag aegis128l _ _ _ _ (n .new .ensures) (a .absorb-ad .ensures) (s .start .ensures) (r .transform .ensures .1) _
           (r .transform .ensures .0) (e .close .ensures)),
     )
 

@@ -1,6 +1,5 @@
 -- `sealed` meets its contract: the machine over the message in place, and the tag at the end.
 -- Assumes nothing.
-use Prim.Native.Nat.{_≤_}
 use mathlib.Core.Path.{ap, _∙_}
 use native.Mathlib.Omega.{arith}
 use borrow.Author.Needs.{needs}
@@ -8,18 +7,19 @@ use lib.ListN.{length}
 use Rattle.machine.specs.Machine.{enc}
 use Rattle.machine.proofs.Cutting.{out-length}
 use Rattle.aegis128l.specs.Aegis128L.{machine}
+use Rattle.aegis128l.specs.Cipher.{aegis128l}
 use Rattle.oneshot.proofs.Texts.{seals, seals-tag}
 use Rattle.oneshot.proofs.Expected.{fresh-fill, fed-fill}
 use Rattle.oneshot.proofs.sealed.Statement.{statement}
 use Rattle.oneshot.proofs.sealed.Tie as tie
 
 transform-requires : tie.Need-transform-requires
-transform-requires c κs = (search needs, fresh-fill _ _ (c .before .before .start .ensures))
+transform-requires c κs = (search needs, fresh-fill machine _ _ (c .before .before .start .ensures))
 
 close-requires : tie.Need-close-requires
 close-requires c κs =
     let r = c .before .before .before in
-    (search needs, fed-fill enc _ _ _ _ (r .before .before .before .start .ensures) (r .transform .ensures .0))
+    (search needs, fed-fill machine enc _ _ _ _ (r .before .before .before .start .ensures) (r .transform .ensures .0))
 
 tag-requires : tie.Need-tag-requires
 tag-requires c κs =
@@ -37,8 +37,8 @@ returns c =
     let s = r .before .before .before in
     let a = s .before in
     let n = a .before .before in (
-      seals _ _ _ _ (n .new .ensures) (a .absorb-ad .ensures) (s .start .ensures) (r .transform .ensures .1),
-      seals-tag _ _ _ _ (n .new .ensures) (a .absorb-ad .ensures) (s .start .ensures) (r .transform .ensures .1) _
+      seals aegis128l _ _ _ _ (n .new .ensures) (a .absorb-ad .ensures) (s .start .ensures) (r .transform .ensures .1),
+      seals-tag aegis128l _ _ _ _ (n .new .ensures) (a .absorb-ad .ensures) (s .start .ensures) (r .transform .ensures .1) _
           (r .transform .ensures .0) (e .close .ensures) (g .tag .ensures),
     )
 

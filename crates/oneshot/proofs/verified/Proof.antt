@@ -5,6 +5,7 @@ use borrow.Author.Needs.{needs}
 use lib.ListN.{length}
 use Rattle.machine.specs.Bytes.{zeros}
 use Rattle.lent.specs.Lent.{same}
+use Rattle.aegis128l.specs.Cipher.{aegis128l}
 use Rattle.oneshot.proofs.Expected.{size-fits, lent-size, tag-there, tag-read}
 use Rattle.oneshot.proofs.verified.Statement.{statement}
 use Rattle.oneshot.proofs.verified.Tie as tie
@@ -19,12 +20,12 @@ tag-requires c κs =
     (p .0, (p .1 .0, lent-size (zeros 32) n (size-fits n (p .1 .1)) (p .1 .1)))
 
 part-tags-match-end : tie.Need-part-tags-match-end
-part-tags-match-end c = tag-there _ _ _ _ (c .before .before .before .before .before .pre .1 .1) _ (c .before .before .tag .ensures)
+part-tags-match-end c = tag-there aegis128l _ _ _ _ (c .before .before .before .before .before .pre .1 .1) _ (c .before .before .tag .ensures)
 
 returns : tie.Need-returns
 returns c =
     let g = c .before .before .before .before in
-    c .tags-match .ensures ∙ ap (same _) (tag-read _ _ _ _ (g .before .before .before .pre .1 .1) _ (g .tag .ensures))
+    c .tags-match .ensures ∙ ap (same _) (tag-read aegis128l _ _ _ _ (g .before .before .before .pre .1 .1) _ (g .tag .ensures))
 
 pub verified-spec : {M : Type 1} → statement M
 verified-spec =

@@ -3,6 +3,7 @@
 use mathlib.Core.Path.{sym, _∙_}
 use borrow.Author.Needs.{needs}
 use Rattle.answers.proofs.Answers.{mac-ok}
+use Rattle.aegis128l.specs.Cipher.{aegis128l, aegis128lMac}
 use Rattle.oneshot.proofs.Texts.{macs-tag}
 use Rattle.oneshot.proofs.OtherLeaves.{mac-refuses, macs-leaves}
 use Rattle.oneshot.proofs.Expected.{size-limit}
@@ -10,7 +11,7 @@ use Rattle.oneshot.proofs.mac.aegis128l_mac.Statement.{statement}
 use Rattle.oneshot.proofs.mac.aegis128l_mac.Tie as tie
 
 returns : tie.Need-returns
-returns c = mac-refuses _ _ _ _ (c .before .mac .ensures) (c .if1 .taken)
+returns c = mac-refuses aegis128l aegis128lMac _ _ _ _ (c .before .mac .ensures) (c .if1 .taken)
 
 tag-requires : tie.Need-tag-requires
 tag-requires c κs =
@@ -24,7 +25,7 @@ returns-2 c =
     let g = c .before .before in
     let m = g .before .before .before in
     let i = m .before .before .before in
-    macs-leaves _ _ _ _ (i .before .mac .ensures) (i .if1 .left) (macs-tag _ _ _ _ (m .mac-state .ensures) (g .tag .ensures))
+    macs-leaves aegis128l aegis128lMac _ _ _ _ (i .before .mac .ensures) (i .if1 .left) (macs-tag aegis128l aegis128lMac _ _ _ _ (m .mac-state .ensures) (g .tag .ensures))
 
 pub aegis128l-mac-spec : {M : Type 1} → statement M
 aegis128l-mac-spec =
