@@ -6,7 +6,7 @@
  * Unless said otherwise a refusal changes nothing: no lent byte and no session. Test each answer for 0.
  *
  * What the caller must keep, since nothing can check it
- *   A buffer is a pointer and its length in bytes, in this order. The pointer may be null if the length is 0.
+ *   A buffer is a pointer and its length in bytes, in this order. With length 0 no pointer is followed: it may be null.
  *   Lengths are true: that many bytes are readable, and for `uint8_t *` writable.
  *   A session pointer points to a whole, writable struct of its type; its bytes may be anything.
  *   Nothing that is lent to one call overlaps anything else that is lent to it, whether it is read or written, sessions
