@@ -14,7 +14,7 @@ fn installed() -> Option<PathBuf> {
 }
 
 fn main() {
-    println!("cargo:rerun-if-env-changed=WODZERIM_LIB_DIR");
+    println!("cargo::rerun-if-env-changed=WODZERIM_LIB_DIR");
     let here = PathBuf::from(std::env::var_os("CARGO_MANIFEST_DIR").expect("set by cargo"));
     let built = here.join("../build");
     let folder = match std::env::var_os("WODZERIM_LIB_DIR") {
@@ -23,11 +23,11 @@ fn main() {
         None => installed().unwrap_or(built),
     };
     let archive = folder.join(ARCHIVE);
-    println!("cargo:rerun-if-changed={}", archive.display());
+    println!("cargo::rerun-if-changed={}", archive.display());
     if !archive.exists() {
-        println!("cargo:error={} is not there: `make lib` builds it, WODZERIM_LIB_DIR may name its folder", archive.display());
+        println!("cargo::error={} is not there: `make lib` builds it, WODZERIM_LIB_DIR may name its folder", archive.display());
         return;
     }
-    println!("cargo:rustc-link-search=native={}", folder.display());
-    println!("cargo:rustc-link-lib=static=wodzerim");
+    println!("cargo::rustc-link-search=native={}", folder.display());
+    println!("cargo::rustc-link-lib=static=wodzerim");
 }
