@@ -8,7 +8,8 @@
  * What the caller must keep, since nothing can check it
  *   A buffer is a pointer and its length in bytes, in this order. With length 0 no pointer is followed: it may be null.
  *   Lengths are true: that many bytes are readable, and for `uint8_t *` writable.
- *   A session pointer points to a whole, writable struct of its type; its bytes may be anything.
+ *   A session pointer points to a whole, writable struct of its type; its bytes may be anything, and a start does not
+ *   look at them.
  *   Nothing that is lent to one call overlaps anything else that is lent to it, whether it is read or written, sessions
  *   included. Where input and output are to be one, call the form that works in place.
  *   While a call runs, nobody else uses what it was lent.
@@ -44,8 +45,8 @@ extern "C" {
 
 #define AEGIS128L_KEYBYTES 16
 #define AEGIS128L_NONCEBYTES 16
-#define AEGIS128L_TAGBYTES_SHORT 16            /* the two tag sizes: */
-#define AEGIS128L_TAGBYTES_LONG 32             /* none between them is allowed */
+#define AEGIS128L_TAGBYTES_SHORT 16 /* a tag has this size, */
+#define AEGIS128L_TAGBYTES_LONG 32  /* or this one */
 #define AEGIS128L_BYTES_MAX 0x1fffffffffffffffu /* 2^61-1: the most bytes of a message, and of associated data */
 
 /* ---- One-shots ---------------------------------------------------------------------------------------------------- */
@@ -126,9 +127,9 @@ uint8_t aegis128l_mac_check(const uint8_t *key, size_t key_len, const uint8_t *n
  * A start writes the lent session, pieces continue it, and a finish or an abort ends it. Where the message is cut makes
  * no difference: the bytes and the tag, or the verdict, are the one-shot's on the joined pieces.
  *
- * A refused piece, finish or abort counts for nothing and leaves the session as it was; only answer 7, a finish with
- * answer 0 and an abort with answer 0 end it. A session that has ended, or whose start was refused, holds zeros and the
- * mark AEGIS128L_OVER, and every call but a start answers 8.
+ * Answer 0 of a finish or an abort ends the session, and so does answer 7. Any other refusal of a piece, a finish or an
+ * abort counts for nothing and leaves the session open, as it was. A session that has ended, or whose start was refused,
+ * holds zeros and the mark AEGIS128L_OVER, and every call on it but a start answers 8.
  *
  * The record is plain data: copy it, move it, keep it on the stack; nothing else is held for it. It contains secrets
  * until it has ended, so abort what is not finished. A copied MAC session goes on by itself; of a sealing session
