@@ -107,7 +107,7 @@ uint8_t aegis128l_stream_xor(const uint8_t *key, size_t key_len, const uint8_t *
                              uint8_t *buf, size_t buf_len);
 
 /*
- * Writes the MAC of data to the whole of tag. The nonce is always given; the Rust crate's default is sixteen zeros.
+ * Writes the MAC of data to the whole of tag. The nonce is always given; the crate aegis takes sixteen zeros by default.
  * Refusals: 1 (tag_len), 2 (key_len), 3 (nonce_len), 5 (data_len).
  */
 WODZERIM_NODISCARD

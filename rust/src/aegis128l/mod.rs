@@ -149,7 +149,7 @@ pub fn stream_xor(key: &Key, nonce: &Nonce, buf: &mut [u8]) {
     never_refused(calls::stream_xor(key, nonce, buf));
 }
 
-/// The MAC of `data`. The nonce is always given; the Rust crate's default is sixteen zeros.
+/// The MAC of `data`. The nonce is always given; the crate aegis takes sixteen zeros by default.
 ///
 /// # Errors
 /// [`Error::MessageTooLong`].

@@ -56,6 +56,7 @@ impl Drop for Place {
     }
 }
 
+/// A session's pointer to its record.
 enum Home<'a> {
     Lent(&'a mut Place),
     #[cfg(feature = "std")]
@@ -277,14 +278,14 @@ pub struct Mac<'a, T: Tag> {
 
 #[cfg(feature = "std")]
 impl<T: Tag> Mac<'static, T> {
-    /// Starts a MAC; the record stands in a box. The nonce is always given; the Rust crate's default is sixteen zeros.
+    /// Starts a MAC; the record stands in a box. The nonce is always given; the crate aegis takes sixteen zeros by default.
     pub fn start(key: &Key, nonce: &Nonce) -> Self {
         Mac::at(Home::boxed(), key, nonce)
     }
 }
 
 impl<'a, T: Tag> Mac<'a, T> {
-    /// Starts a MAC; the record stands in `place`. The nonce is always given; the Rust crate's default is sixteen zeros.
+    /// Starts a MAC; the record stands in `place`. The nonce is always given; the crate aegis takes sixteen zeros by default.
     pub fn start_in(place: &'a mut Place, key: &Key, nonce: &Nonce) -> Self {
         Mac::at(Home::Lent(place), key, nonce)
     }
