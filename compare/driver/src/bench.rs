@@ -3,7 +3,7 @@
 use std::time::Instant;
 
 use crate::oracle::{plain, table};
-use wodzerim::calls;
+use wodzerim::aegis128l::raw as calls;
 
 const LENGTH: usize = 65_536;
 const TURNS: usize = 15;
@@ -27,7 +27,7 @@ fn rust_table(buf: &mut [u8]) {
 
 /// What is measured, by its name.
 const SIDES: [(&str, fn(&mut [u8])); 3] =
-    [("Wodzerim (build/libaegis128l.a)", ours), ("the Rust, plain round", rust_plain), ("the Rust, table round", rust_table)];
+    [("Wodzerim (build/libwodzerim.a)", ours), ("the Rust, plain round", rust_plain), ("the Rust, table round", rust_table)];
 
 /// Millions of bytes a second, in the fastest turn.
 pub fn run() {

@@ -1,4 +1,6 @@
-//! A buffer lent out of the middle of a larger one, so that a write outside of it is seen.
+//! Buffers lent out of the middle of larger ones, so that a write outside of them is seen, and one to what is only read.
+
+use crate::difference::{same, Difference};
 
 const GUARD: usize = 40;
 
@@ -35,5 +37,27 @@ impl Guarded {
         } else {
             &self.whole
         }
+    }
+}
+
+/// A copy of what a call may only read.
+pub struct ReadOnly<'a> {
+    what: &'static str,
+    bytes: &'a [u8],
+    copy: Guarded,
+}
+
+impl<'a> ReadOnly<'a> {
+    pub fn new(what: &'static str, bytes: &'a [u8]) -> ReadOnly<'a> {
+        ReadOnly { what, bytes, copy: Guarded::new(bytes) }
+    }
+
+    pub fn lent(&mut self) -> &[u8] {
+        self.copy.lent()
+    }
+
+    /// A difference if this function wrote to it, or around it.
+    pub fn intact(&self, by: &str) -> Result<(), Difference> {
+        same("a call wrote to what it may only read, or around it", &format!("{by}, {}", self.what), self.bytes, self.copy.seen())
     }
 }

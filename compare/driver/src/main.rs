@@ -1,7 +1,9 @@
 //! Compares Wodzerim's archive and hub program with the Rust. The first difference ends it, with the input in hex.
 
+mod answers;
 mod bench;
 mod difference;
+mod driven;
 mod guarded;
 mod hub;
 mod json;
@@ -56,6 +58,7 @@ fn compare(arguments: &[&str]) -> Result<(), Difference> {
             oneshot::run(&mut say)?;
             session::run(&mut say)?;
             hub::run(Path::new(program), &mut say)?;
+            say("functions of the header, each of them called", driven::all()?);
         }
         ["bench"] => {
             bench::run();

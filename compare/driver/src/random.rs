@@ -38,8 +38,12 @@ impl Random {
         out
     }
 
+    pub fn array<const N: usize>(&mut self) -> [u8; N] {
+        self.bytes(N).try_into().expect("N bytes")
+    }
+
     pub fn block(&mut self) -> [u8; 16] {
-        self.bytes(16).try_into().expect("16 bytes")
+        self.array()
     }
 
     pub fn tag_size(&mut self) -> usize {

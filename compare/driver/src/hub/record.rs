@@ -1,8 +1,8 @@
 //! A hub record, and what the program must write for any input (document 01, "Nonce rule and hub program").
 
+use crate::answers::{TAG_DIFFERS, WRONG_SHAPE, WRONG_TAG_SIZE};
 use crate::oracle::table as rust;
 use crate::random::Random;
-use wodzerim::answers::{TAG_DIFFERS, WRONG_SHAPE, WRONG_TAG_SIZE};
 
 pub const MOST_AD: usize = 512;
 pub const MOST_CT: usize = 4_096;

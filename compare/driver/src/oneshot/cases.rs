@@ -1,10 +1,10 @@
 //! The inputs on which the one-shots are compared.
 
 use super::{check, limits, Entry, Input};
+use crate::answers::{DONE, TAG_DIFFERS};
 use crate::difference::{Difference, Equal};
 use crate::guarded::pattern;
 use crate::random::Random;
-use wodzerim::answers::{DONE, TAG_DIFFERS};
 
 pub const LONGEST: usize = 65_536;
 

@@ -1,8 +1,8 @@
 //! What a one-shot must leave: the refusals in document 01's order, then what the Rust does.
 
 use super::{Entry, Input, Left};
+use crate::answers::*;
 use crate::oracle::table as rust;
-use wodzerim::answers::*;
 
 pub const LARGEST: u64 = (1 << 61) - 1;
 

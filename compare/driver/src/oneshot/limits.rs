@@ -3,7 +3,7 @@
 use super::{compared, expected, Entry, Input, Left};
 use crate::difference::{Difference, Equal};
 use crate::guarded::pattern;
-use wodzerim::ffi;
+use wodzerim::aegis128l::raw as ffi;
 
 /// A pointer and a length, as C gives them.
 #[derive(Clone, Copy)]

@@ -7,8 +7,9 @@ mod limits;
 use std::fmt;
 
 use crate::difference::{Bytes, Difference};
-use crate::guarded::Guarded;
-use wodzerim::calls;
+use crate::driven;
+use crate::guarded::{Guarded, ReadOnly};
+use wodzerim::aegis128l::raw as calls;
 
 pub use cases::run;
 
@@ -27,6 +28,20 @@ pub enum Entry {
 impl Entry {
     pub const ALL: [Entry; 8] =
         [Entry::Seal, Entry::SealInPlace, Entry::Open, Entry::OpenInPlace, Entry::Stream, Entry::StreamXor, Entry::Mac, Entry::MacCheck];
+
+    /// Its name in the header.
+    fn name(self) -> &'static str {
+        match self {
+            Entry::Seal => "aegis128l_seal",
+            Entry::SealInPlace => "aegis128l_seal_in_place",
+            Entry::Open => "aegis128l_open",
+            Entry::OpenInPlace => "aegis128l_open_in_place",
+            Entry::Stream => "aegis128l_stream",
+            Entry::StreamXor => "aegis128l_stream_xor",
+            Entry::Mac => "aegis128l_mac",
+            Entry::MacCheck => "aegis128l_mac_check",
+        }
+    }
 }
 
 /// All that a call is given. `text` is what is only read (message, ciphertext or data), `buf` what is written
@@ -69,25 +84,29 @@ impl fmt::Display for Left {
 }
 
 /// The call through the archive, its buffers between guards.
-fn ours(input: &Input) -> Left {
-    let Input { entry, key, nonce, ad, text, .. } = input;
-    let (mut buf, mut tag) = (Guarded::new(&input.buf), Guarded::new(&input.tag));
+fn ours(input: &Input) -> Result<Left, Difference> {
+    let Input { entry, key, nonce, ad, text, buf, tag } = input;
+    let lent = [("key", key), ("nonce", nonce), ("ad", ad), ("text", text), ("tag to check", tag)];
+    let [mut key, mut nonce, mut ad, mut text, mut check] = lent.map(|(what, bytes)| ReadOnly::new(what, bytes));
+    let (mut buf, mut tag) = (Guarded::new(buf), Guarded::new(tag));
+    driven::count(entry.name());
     let answer = match entry {
-        Entry::Seal => calls::seal(key, nonce, ad, text, buf.lent(), tag.lent()),
-        Entry::SealInPlace => calls::seal_in_place(key, nonce, ad, buf.lent(), tag.lent()),
-        Entry::Open => calls::open(key, nonce, ad, text, &input.tag, buf.lent()),
-        Entry::OpenInPlace => calls::open_in_place(key, nonce, ad, buf.lent(), &input.tag),
-        Entry::Stream => calls::stream(key, nonce, buf.lent()),
-        Entry::StreamXor => calls::stream_xor(key, nonce, buf.lent()),
-        Entry::Mac => calls::mac(key, nonce, text, tag.lent()),
-        Entry::MacCheck => calls::mac_check(key, nonce, text, &input.tag),
+        Entry::Seal => calls::seal(key.lent(), nonce.lent(), ad.lent(), text.lent(), buf.lent(), tag.lent()),
+        Entry::SealInPlace => calls::seal_in_place(key.lent(), nonce.lent(), ad.lent(), buf.lent(), tag.lent()),
+        Entry::Open => calls::open(key.lent(), nonce.lent(), ad.lent(), text.lent(), check.lent(), buf.lent()),
+        Entry::OpenInPlace => calls::open_in_place(key.lent(), nonce.lent(), ad.lent(), buf.lent(), check.lent()),
+        Entry::Stream => calls::stream(key.lent(), nonce.lent(), buf.lent()),
+        Entry::StreamXor => calls::stream_xor(key.lent(), nonce.lent(), buf.lent()),
+        Entry::Mac => calls::mac(key.lent(), nonce.lent(), text.lent(), tag.lent()),
+        Entry::MacCheck => calls::mac_check(key.lent(), nonce.lent(), text.lent(), check.lent()),
     };
-    Left { answer, buf: buf.seen().to_vec(), tag: tag.seen().to_vec() }
+    [key, nonce, ad, text, check].iter().try_for_each(|lent| lent.intact(entry.name()))?;
+    Ok(Left { answer, buf: buf.seen().to_vec(), tag: tag.seen().to_vec() })
 }
 
 /// Both sides on one input. Hands back what both left.
 pub fn check(input: &Input) -> Result<Left, Difference> {
-    compared(input, ours(input), expected::left(input))
+    compared(input, ours(input)?, expected::left(input))
 }
 
 fn compared(input: &Input, ours: Left, expected: Left) -> Result<Left, Difference> {

@@ -3,10 +3,10 @@
 use std::path::Path;
 
 use super::{Record, END, MAC, ORACLE, REFUSED, SEAL, STREAM};
+use crate::answers::{DONE, TAG_DIFFERS};
 use crate::difference::{same, Bytes, Difference};
 use crate::oracle::table as rust;
-use wodzerim::answers::{DONE, TAG_DIFFERS};
-use wodzerim::calls;
+use wodzerim::aegis128l::raw as calls;
 
 fn describe(r: &Record) -> String {
     let Record { kind, key, nonce, ad, msg, ct, tag } = r;

@@ -1,22 +1,23 @@
 //! Calls in any order on any bytes in the record: no crash, and always what the model says.
 
 use super::model::{self, LARGEST, MAC, OPENING, SEALING};
-use super::{start, step, Call};
+use super::record::Record;
+use super::{start, step, Call, Start};
 use crate::difference::{Difference, Equal};
 use crate::random::Random;
-use wodzerim::ffi::Session;
 
 const CALLS: u64 = 200_000;
 
-/// Starts with right and wrong sizes.
-fn started(random: &mut Random) -> Result<Session, Difference> {
+/// Starts with right and wrong sizes, in the record as it was left or in one that holds any bytes.
+fn started(random: &mut Random, left: &Record) -> Result<Record, Difference> {
     let size = |random: &mut Random| if random.once_in(8) { random.below(40) } else { 16 };
     let (key, nonce, ad) = (size(random), size(random), random.below(80));
     let (key, nonce, ad) = (random.bytes(key), random.bytes(nonce), random.bytes(ad));
     let tag_size = if random.once_in(8) { random.below(40) } else { random.tag_size() };
     let mark = random.pick(&[SEALING, OPENING, MAC]);
     let (ad, room) = (if mark == MAC { vec![] } else { ad }, if mark == OPENING { random.below(150) } else { 0 });
-    Ok(start(mark, &key, &nonce, &ad, tag_size, room)?.session)
+    let held = if random.once_in(2) { left.bytes() } else { random.array() };
+    Ok(start(&Start { mark, key: &key, nonce: &nonce, ad: &ad, tag_size, room }, held)?.1)
 }
 
 fn any_length(random: &mut Random) -> u64 {
@@ -28,8 +29,8 @@ fn any_length(random: &mut Random) -> u64 {
 }
 
 /// A record that no start made, well formed more often than not.
-fn made_up(random: &mut Random) -> Session {
-    let mut s = Session {
+fn made_up(random: &mut Random) -> Record {
+    let mut s = Record {
         blocks: std::array::from_fn(|_| random.block()),
         buf: random.bytes(32).try_into().expect("32 bytes"),
         fill: 0,
@@ -54,7 +55,7 @@ fn made_up(random: &mut Random) -> Session {
 }
 
 /// One field changed to anything, or to something near.
-fn spoil(random: &mut Random, s: &mut Session) {
+fn spoil(random: &mut Random, s: &mut Record) {
     let far = random.next();
     let near = |x: u64, random: &mut Random| x.wrapping_add(random.below(3) as u64).wrapping_sub(1);
     let change = |x: u64, random: &mut Random| if random.once_in(2) { far } else { near(x, random) };
@@ -63,8 +64,9 @@ fn spoil(random: &mut Random, s: &mut Session) {
         1 => s.ad_len = change(s.ad_len, random),
         2 => s.msg_len = change(s.msg_len, random),
         3 => s.tag_size = change(s.tag_size as u64, random) as usize,
-        4 => s.mark = far as u8,
-        5 => s.mark = (far % 5) as u8,
+        4 if random.once_in(2) => s.mark |= 1 << (8 + far % 56), // one byte of it is still a kind's
+        4 => s.mark = far as usize,
+        5 => s.mark = (far % 5) as usize,
         6 => s.room = change(s.room as u64, random) as usize,
         _ => s.written = change(s.written as u64, random) as usize,
     }
@@ -81,7 +83,7 @@ fn near_length(random: &mut Random, right: usize) -> usize {
 }
 
 /// One call with buffers that often fit it, and often with the right tag.
-fn any_call(random: &mut Random, s: &mut Session) -> Result<u8, Difference> {
+fn any_call(random: &mut Random, s: &mut Record) -> Result<u8, Difference> {
     let call = match (random.once_in(4), s.mark) {
         (false, SEALING) => random.pick(&[Call::SealPiece, Call::SealPiece, Call::SealPieceInPlace, Call::SealFinish]),
         (false, OPENING) => random.pick(&[Call::OpenPiece, Call::OpenPiece, Call::OpenPiece, Call::OpenFinish]),
@@ -112,14 +114,14 @@ fn calls(answers: &mut [u64; 12]) -> Equal {
     let mut s = model::over();
     for _ in 0..CALLS {
         match random.below(10) {
-            0 => s = started(&mut random)?,
+            0 => s = started(&mut random, &s)?,
             1 | 2 => s = made_up(&mut random),
             3 if s.mark <= MAC => spoil(&mut random, &mut s),
             _ => {}
         }
         answers[any_call(&mut random, &mut s)? as usize] += 1;
         if s.mark > MAC && random.once_in(2) {
-            s = started(&mut random)?;
+            s = started(&mut random, &s)?;
         }
     }
     Ok(CALLS)

@@ -1,29 +1,30 @@
 //! Document 01's sessions, word for word and byte by byte, over the draft's program: what every call must answer and
 //! leave, on any bytes in the record. Written from the document, not from the Rust and not from the Rattle code.
 
-use super::Call;
+use super::record::Record;
+use super::{Call, Start};
+use crate::answers::*;
 use draft::State;
-use wodzerim::answers::*;
-use wodzerim::ffi::{Piece, Session};
 
-pub const SEALING: u8 = 0;
-pub const OPENING: u8 = 1;
-pub const MAC: u8 = 2;
-pub const OVER: u8 = 3;
+pub const SEALING: usize = 0;
+pub const OPENING: usize = 1;
+pub const MAC: usize = 2;
+pub const OVER: usize = 3;
 pub const LARGEST: u64 = (1 << 61) - 1;
 
 /// "A session that we end or refuse to start holds only zeros and the mark over."
-pub fn over() -> Session {
+pub fn over() -> Record {
     blank(OVER, 0)
 }
 
-fn blank(mark: u8, tag_size: usize) -> Session {
-    Session { blocks: [[0; 16]; 8], buf: [0; 32], fill: 0, ad_len: 0, msg_len: 0, tag_size, mark, room: 0, written: 0 }
+fn blank(mark: usize, tag_size: usize) -> Record {
+    Record { blocks: [[0; 16]; 8], buf: [0; 32], fill: 0, ad_len: 0, msg_len: 0, tag_size, mark, room: 0, written: 0 }
 }
 
 /// "Session start: 1, 2, 3, 4"; "MAC start: 1, 2, 3". Fields that a kind does not use start as zero.
-pub fn start(mark: u8, key: &[u8], nonce: &[u8], ad: &[u8], tag_size: usize, room: usize) -> Piece {
-    let refused = |answer| Piece { answer, session: over() };
+pub fn start(start: &Start) -> (u8, Record) {
+    let Start { mark, key, nonce, ad, tag_size, room } = *start;
+    let refused = |answer| (answer, over());
     if tag_size != 16 && tag_size != 32 {
         return refused(WRONG_TAG_SIZE);
     }
@@ -31,12 +32,12 @@ pub fn start(mark: u8, key: &[u8], nonce: &[u8], ad: &[u8], tag_size: usize, roo
     let Ok(nonce) = nonce.try_into() else { return refused(WRONG_NONCE_SIZE) };
     let mut state = State::init(key, nonce);
     draft::padded(ad).iter().for_each(|block| state.absorb(block));
-    Piece { answer: DONE, session: Session { blocks: state.0, ad_len: ad.len() as u64, room, ..blank(mark, tag_size) } }
+    (DONE, Record { blocks: state.0, ad_len: ad.len() as u64, room, ..blank(mark, tag_size) })
 }
 
 /// "Well formed means: tag size 16 or 32, both lengths at most 2^61-1, fill equal to the message length modulo 32, and
 /// for opening the count written equal to the message length and at most the room."
-fn well_formed(s: &Session) -> bool {
+fn well_formed(s: &Record) -> bool {
     (s.tag_size == 16 || s.tag_size == 32)
         && s.ad_len <= LARGEST
         && s.msg_len <= LARGEST
@@ -44,12 +45,12 @@ fn well_formed(s: &Session) -> bool {
         && (s.mark != OPENING || (s.written as u64 == s.msg_len && s.written <= s.room))
 }
 
-fn live(s: &Session, mark: u8) -> bool {
+fn live(s: &Record, mark: usize) -> bool {
     s.mark == mark && well_formed(s)
 }
 
 /// One byte: "at fill 0" a block begins with its keystream (MAC: zeros), and a full buffer is absorbed.
-fn byte(s: &mut Session, input: u8) -> u8 {
+fn byte(s: &mut Record, input: u8) -> u8 {
     if s.fill == 0 {
         s.buf = if s.mark == MAC { [0; 32] } else { State(s.blocks).keystream() };
     }
@@ -67,7 +68,7 @@ fn byte(s: &mut Session, input: u8) -> u8 {
 
 /// The tag that a finish makes: it "uses only the bytes below the fill, padded with zeros"; a MAC of no data absorbs
 /// one block of zeros.
-pub fn tag(s: &Session) -> Vec<u8> {
+pub fn tag(s: &Record) -> Vec<u8> {
     let mut state = State(s.blocks);
     if s.fill > 0 || (s.mark == MAC && s.msg_len == 0) {
         state.absorb(&std::array::from_fn(|i| if i < s.fill { s.buf[i] } else { 0 }));
@@ -79,10 +80,10 @@ pub fn tag(s: &Session) -> Vec<u8> {
 }
 
 /// The first refusal of a call, in its order.
-fn refusal(call: Call, s: &Session, text: usize, buf: usize) -> Option<u8> {
+fn refusal(call: Call, s: &Record, text: usize, buf: usize) -> Option<u8> {
     let longer_than_all = |n: usize| s.msg_len as u128 + n as u128 > LARGEST as u128;
     let first = |ladder: &[(bool, u8)]| ladder.iter().find(|(applies, _)| *applies).map(|(_, answer)| *answer);
-    let is = |mark: u8| (!live(s, mark), NOT_LIVE);
+    let is = |mark: usize| (!live(s, mark), NOT_LIVE);
     let other_buffer = (buf != s.room, OTHER_BUFFER);
     match call {
         Call::SealPiece => first(&[is(SEALING), (text != buf, LENGTHS_DIFFER), (longer_than_all(text), MESSAGE_TOO_LONG)]),
@@ -104,7 +105,7 @@ fn refusal(call: Call, s: &Session, text: usize, buf: usize) -> Option<u8> {
 }
 
 /// A call on a lent record: the answer and the number beside it. A refusal changes nothing and hands back 0.
-pub fn call(call: Call, s: &mut Session, text: &[u8], buf: &mut [u8]) -> (u8, usize) {
+pub fn call(call: Call, s: &mut Record, text: &[u8], buf: &mut [u8]) -> (u8, usize) {
     if let Some(answer) = refusal(call, s, text.len(), buf.len()) {
         return (answer, 0);
     }
@@ -157,7 +158,7 @@ pub fn call(call: Call, s: &mut Session, text: &[u8], buf: &mut [u8]) -> (u8, us
     }
 }
 
-fn end(s: &mut Session, answer: u8, count: usize) -> (u8, usize) {
+fn end(s: &mut Record, answer: u8, count: usize) -> (u8, usize) {
     *s = over();
     (answer, count)
 }

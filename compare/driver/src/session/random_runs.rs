@@ -1,14 +1,14 @@
 //! Random cuttings up to 65,536 bytes, with empty pieces and refused calls among them.
 
 use super::model::{LARGEST, OPENING, SEALING};
+use super::record::Record;
 use super::runs::{Ending, Sealed, Setup};
 use super::{step, Call};
+use crate::answers::*;
 use crate::difference::{Difference, Equal};
 use crate::guarded::pattern;
 use crate::oracle::table as rust;
 use crate::random::Random;
-use wodzerim::answers::*;
-use wodzerim::ffi::Session;
 
 const LONGEST: usize = 65_536;
 const RUNS: usize = 150;
@@ -35,7 +35,7 @@ fn pieces(random: &mut Random, len: usize) -> Vec<usize> {
 struct Refusals([u64; 12]);
 
 /// Half of the time, one call that must be refused and must leave the live session and the buffer as they were.
-fn refused(random: &mut Random, seen: &mut Refusals, s: &mut Session, plain: &mut [u8]) -> Result<(), Difference> {
+fn refused(random: &mut Random, seen: &mut Refusals, s: &mut Record, plain: &mut [u8]) -> Result<(), Difference> {
     if random.once_in(2) {
         return Ok(());
     }
@@ -63,7 +63,7 @@ fn refused(random: &mut Random, seen: &mut Refusals, s: &mut Session, plain: &mu
     Ok(())
 }
 
-fn of_another_kind(random: &mut Random, s: &mut Session, text: &[u8]) -> Result<(u8, usize), Difference> {
+fn of_another_kind(random: &mut Random, s: &mut Record, text: &[u8]) -> Result<(u8, usize), Difference> {
     let call = loop {
         let call = random.pick(&Call::ALL);
         let same_kind = match call {
@@ -80,8 +80,8 @@ fn of_another_kind(random: &mut Random, s: &mut Session, text: &[u8]) -> Result<
 }
 
 /// A copy of the record with the greatest total that has the same fill: a piece of 33 bytes is too long for it.
-fn at_the_limit(s: &Session) -> Session {
-    Session { msg_len: LARGEST - 31 + s.fill as u64, ..*s }
+fn at_the_limit(s: &Record) -> Record {
+    Record { msg_len: LARGEST - 31 + s.fill as u64, ..*s }
 }
 
 fn run_all(seed: u64, mut each: impl FnMut(&Setup, &Sealed, &[usize], &mut Random) -> Result<(), Difference>) -> Equal {

@@ -1,12 +1,13 @@
 //! Runs of a session beside the Rust's `Encryptor`, `Decryptor` and `Aegis128LMac`.
 
 use super::model::{MAC, OPENING, SEALING};
-use super::{start, step, Call};
+use super::record::Record;
+use super::{start, step, Call, Start};
+use crate::answers::*;
 use crate::difference::{hex, Bytes, Difference};
 use crate::guarded::pattern;
+use crate::random::Random;
 use aegis_table::aegis128l::{Aegis128L, Aegis128LMac};
-use wodzerim::answers::*;
-use wodzerim::ffi::Session;
 
 /// What a run starts from.
 pub struct Setup {
@@ -25,10 +26,14 @@ pub enum Ending {
 }
 
 impl Setup {
-    pub fn start(&self, mark: u8, room: usize) -> Result<Session, Difference> {
-        let piece = start(mark, &self.key, &self.nonce, if mark == MAC { &[] } else { &self.ad }, self.tag_size, room)?;
-        self.demand("a start is accepted", DONE, piece.answer, &[], &[])?;
-        Ok(piece.session)
+    /// In a record that held any bytes.
+    pub fn start(&self, mark: usize, room: usize) -> Result<Record, Difference> {
+        let Setup { key, nonce, ad, tag_size } = self;
+        let ad: &[u8] = if mark == MAC { &[] } else { ad };
+        let held = Random::new(u64::from_le_bytes(std::array::from_fn(|i| nonce[i]))).array();
+        let (answer, record) = start(&Start { mark, key, nonce, ad, tag_size: *tag_size, room }, held)?;
+        self.demand("a start is accepted", DONE, answer, &[], &[])?;
+        Ok(record)
     }
 
     /// A fact about a run, or the run that breaks it.
@@ -179,7 +184,7 @@ impl Setup {
     }
 
     /// Document 01's rules of the record, after pieces that came to these message bytes.
-    fn record_rules(&self, s: &Session, msg: &[u8], pieces: &[usize]) -> Result<(), Difference> {
+    fn record_rules(&self, s: &Record, msg: &[u8], pieces: &[usize]) -> Result<(), Difference> {
         let fill = msg.len() % 32;
         let lengths = (fill, self.tag_size, msg.len() as u64);
         self.demand("fill, tag size and message length", lengths, (s.fill, s.tag_size, s.msg_len), msg, pieces)?;
@@ -193,9 +198,9 @@ impl Setup {
 }
 
 /// What is done before each piece and before the end: calls that must be refused, or nothing.
-pub type Between<'a> = dyn FnMut(&mut Session, &mut [u8]) -> Result<(), Difference> + 'a;
+pub type Between<'a> = dyn FnMut(&mut Record, &mut [u8]) -> Result<(), Difference> + 'a;
 
-pub fn nothing(_: &mut Session, _: &mut [u8]) -> Result<(), Difference> {
+pub fn nothing(_: &mut Record, _: &mut [u8]) -> Result<(), Difference> {
     Ok(())
 }
 

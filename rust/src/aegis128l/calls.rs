@@ -1,8 +1,10 @@
-//! Each exported function on slices, with its answer as a number.
+//! Each exported function on slices, with its answer as a number: all the unsafe code of this crate.
 //!
-//! Safe: Rust's slices are valid and writable ones never overlap, and the library touches nothing else.
+//! Safe: Rust's slices have their length, what may be written overlaps nothing else, and the library touches nothing but what
+//! it was lent. Slices that are only read may overlap each other in Rust, where the header asks C callers to lend nothing twice.
+#![allow(unsafe_code, missing_docs)]
 
-use crate::ffi::{self, Opened, Piece, Session};
+use super::ffi::{self, Opened, Session};
 
 /// Calls an exported function: `in x` and `out x` stand for a slice's pointer and length, `is x` for a plain value.
 macro_rules! call {
@@ -48,8 +50,8 @@ pub fn mac_check(key: &[u8], nonce: &[u8], data: &[u8], tag: &[u8]) -> u8 {
     call!(aegis128l_mac_check: in key in nonce in data in tag)
 }
 
-pub fn seal_start(key: &[u8], nonce: &[u8], ad: &[u8], tag_size: usize) -> Piece {
-    call!(aegis128l_seal_start: in key in nonce in ad is tag_size)
+pub fn seal_start(s: &mut Session, key: &[u8], nonce: &[u8], ad: &[u8], tag_size: usize) -> u8 {
+    call!(aegis128l_seal_start: is s in key in nonce in ad is tag_size)
 }
 
 pub fn seal_piece(s: &mut Session, msg: &[u8], out: &mut [u8]) -> u8 {
@@ -64,8 +66,8 @@ pub fn seal_finish(s: &mut Session, tag: &mut [u8]) -> u8 {
     call!(aegis128l_seal_finish: is s out tag)
 }
 
-pub fn open_start(key: &[u8], nonce: &[u8], ad: &[u8], tag_size: usize, room: usize) -> Piece {
-    call!(aegis128l_open_start: in key in nonce in ad is tag_size is room)
+pub fn open_start(s: &mut Session, key: &[u8], nonce: &[u8], ad: &[u8], tag_size: usize, room: usize) -> u8 {
+    call!(aegis128l_open_start: is s in key in nonce in ad is tag_size is room)
 }
 
 pub fn open_piece(s: &mut Session, ct: &[u8], plain: &mut [u8]) -> u8 {
@@ -80,8 +82,8 @@ pub fn abort(s: &mut Session, plain: &mut [u8]) -> u8 {
     call!(aegis128l_abort: is s out plain)
 }
 
-pub fn mac_start(key: &[u8], nonce: &[u8], tag_size: usize) -> Piece {
-    call!(aegis128l_mac_start: in key in nonce is tag_size)
+pub fn mac_start(s: &mut Session, key: &[u8], nonce: &[u8], tag_size: usize) -> u8 {
+    call!(aegis128l_mac_start: is s in key in nonce is tag_size)
 }
 
 pub fn mac_piece(s: &mut Session, data: &[u8]) -> u8 {
@@ -94,4 +96,10 @@ pub fn mac_finish(s: &mut Session, tag: &mut [u8]) -> u8 {
 
 pub fn mac_finish_check(s: &mut Session, tag: &[u8]) -> u8 {
     call!(aegis128l_mac_finish_check: is s in tag)
+}
+
+/// Makes `to` a second session that goes on like `from`: from place to place, with no copy on the stack between.
+pub fn copy(from: &Session, to: &mut Session) {
+    // SAFETY: both are whole records, and a record that may be written is no other one.
+    unsafe { core::ptr::copy_nonoverlapping(from, to, 1) }
 }
