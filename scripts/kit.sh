@@ -12,7 +12,7 @@ fail() {
 
 case $PROCESSOR in
 x86_64 | aarch64) ;;
-*) fail "the library is built for the processors x86_64 and aarch64, and '$PROCESSOR' is neither; PROCESSOR=x86_64 or PROCESSOR=aarch64 names one" ;;
+*) fail "PROCESSOR is x86_64 or aarch64, not '$PROCESSOR'" ;;
 esac
 
 rt_file=$(command -v "$RT") || fail "the Rattle toolchain's command '$RT' is not on the path; RT=/path/to/rt names it"
