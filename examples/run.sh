@@ -34,9 +34,9 @@ if have "$cc" C; then
 fi
 
 if have cargo Rust; then
-    export WODZERIM_LIB_DIR="$top/build" CARGO_TARGET_DIR="$out/cargo"
-    echo 'rust, its tests:'
-    cargo test --manifest-path "$top/rust/Cargo.toml" --release --offline || fail 'the tests of rust/ failed'
+    export WODZERIM_LIB_DIR="$top/build"
+    echo 'rust: its tests'
+    sh "$top/rust/test.sh"
     echo 'examples/rust:'
-    cargo run --manifest-path "$top/examples/rust/Cargo.toml" --release --offline || fail 'the Rust example failed'
+    CARGO_TARGET_DIR="$out/cargo" cargo run --manifest-path "$top/examples/rust/Cargo.toml" --release --offline || fail 'the Rust example failed'
 fi

@@ -24,6 +24,7 @@ step() { # NAME COMMAND..
 step 'the layout of every file' "$RT" fmt --check
 step 'the names in the documents' sh scripts/docs.sh
 step 'the version' sh scripts/version.sh
+step 'the headers as C and as C++' sh include/check.sh
 
 echo '== the proofs, from nothing, the must-fail edits and the programs'
 rm -f build/rt-ci.status
@@ -38,7 +39,7 @@ step 'why the edits are refused' sh scripts/refusals.sh
 step 'the archive for C and Rust' sh scripts/lib.sh
 step 'the archive for the other processor' sh scripts/archives.sh
 step 'the hub program' sh scripts/hub.sh
-step 'the examples in C and Rust' examples/run.sh
+step 'the examples in C and Rust, and the Rust crate' examples/run.sh
 step 'installing and building over it' sh scripts/install-test.sh
 step 'the comparison with the Rust' compare/run.sh all build/hub crates/vectors/stdin
 
