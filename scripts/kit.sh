@@ -49,9 +49,9 @@ reached() { # NAME..
 prove() { # HOW-MANY-AFTER NAME..
     after=$1
     shift
-    { "$RT" check "$@" 2>&1; echo $? >"$work/status"; } |
+    { status=0; "$RT" check "$@" 2>&1 || status=$?; echo $status >"$work/status"; } |
         sh scripts/progress.sh "target/log/$me-proofs.txt" $(($(reached "$@" | wc -l) + after))
-    [ "$(cat "$work/status")" = 0 ] || fail "not proved: $*; target/log/$me-proofs.txt has all that was said"
+    [ "$(cat "$work/status")" = 0 ] || fail "not all is proved; target/log/$me-proofs.txt has all that was said"
 }
 
 links() { # FROM TO BUT: each part of a folder as a link, but one
