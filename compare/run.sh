@@ -4,6 +4,15 @@
 set -eu
 top=$(cd "$(dirname "$0")/.." && pwd)
 
+# The driver's own list of commands, from its text: a word that is not there is refused before anything is built.
+driver=$top/compare/driver/src/main.rs
+usage=$(sed -n '/^const USAGE/,/";$/{s/^const USAGE.*"//;s/";$//;p;}' "$driver")
+if ! printf '%s\n' "$usage" | grep -q "^  ${1:-none} "; then
+    [ $# -eq 0 ] || echo "compare: there is no command '$1'" >&2
+    printf '%s\n' "$usage" >&2
+    exit 2
+fi
+
 # Something is missing: an error under CI, a note elsewhere.
 missing() {
     echo "compare: $1" >&2
@@ -27,11 +36,7 @@ find_rust() {
 command -v cargo >/dev/null || missing 'cargo is not on the path: the comparison with the Rust needs Rust 1.95 or later'
 rust=$(find_rust)
 [ -n "$rust" ] || missing 'the Rust is neither in docs/src nor in ../shared/docs/src; WODZERIM_RUST_SRC may name its folder'
-lib=$("$top/bridge/linkable.sh")
-if [ "${1:-}" = bench ] && [ "$lib" != "$top/build" ]; then
-    echo 'compare: the archive is for x86-64 and runs through an emulator here, so that its speed says nothing; bench needs an x86-64 machine' >&2
-    exit 1
-fi
+[ -f "$top/build/libwodzerim.a" ] || { echo 'compare: build/libwodzerim.a is not there: make lib builds it' >&2; exit 1; }
 
 # The crate's files by links, and an empty file for each module that it names, that is not at hand and that AEGIS-128L
 # doesn't use.
@@ -46,6 +51,7 @@ done
 [ -e "$oracle/README.md" ] || : >"$oracle/README.md"
 
 # No flags from outside: with a processor's own AES the crate would take another round.
-export WODZERIM_LIB_DIR="$lib" CARGO_TARGET_DIR="$top/build/cargo"
-env -u RUSTFLAGS -u CARGO_ENCODED_RUSTFLAGS cargo build --manifest-path "$top/compare/Cargo.toml" --release --offline --quiet
+export WODZERIM_LIB_DIR="$top/build" CARGO_TARGET_DIR="$top/build/cargo"
+echo 'compare: builds the Rust and the comparison'
+env -u RUSTFLAGS -u CARGO_ENCODED_RUSTFLAGS cargo build --manifest-path "$top/compare/Cargo.toml" --release --offline
 exec "$top/build/cargo/release/compare" "$@"
