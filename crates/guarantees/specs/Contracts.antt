@@ -26,7 +26,6 @@ use Rattle.promises.specs.Met.{SealStartMet, OpenStartMet, MacStartMet, SealPie
 use Rattle.promises.specs.Met.{SealFinishMet, OpenFinishMet, MacFinishMet, MacFinishCheckMet, AbortMet}
 use Rattle.aegis128l.specs.Cipher.{aegis128l, aegis128lMac}
 use Rattle.session.specs.View.{sessionOf}
-use Rattle.oneshot.proofs as oneshot
 use Rattle.thin.proofs as thin
 
 -- ---- what is said of a call, as an `ensures` says it: of each parameter at entry and at exit, and of what is handed back
@@ -56,28 +55,28 @@ module _ {M : Type 1} (𝓤 : URA M) (H : Heap 𝓤) (𝓜 : Model 𝓤 H) (𝓖
 
   pub record Contracts : Type 1 where
     -- ---- the one-shots
-    pub aegis128l-seal : Every oneshot.aegis128l_seal.Symbol.routine oneshot.aegis128l_seal.ended λ _ key nonce ad msg out tag r.
+    pub aegis128l-seal : Every thin.once.aegis128l_seal.Symbol.routine thin.once.aegis128l_seal.ended λ _ key nonce ad msg out tag r.
         SealMet aegis128l (now (key .entry)) (now (nonce .entry)) (now (ad .entry)) (now (msg .entry)) (now (out .entry)) (now (tag .entry))
         r (now (out .exit)) (now (tag .exit))
-    pub aegis128l-seal-in-place : Every oneshot.aegis128l_seal_in_place.Symbol.routine oneshot.aegis128l_seal_in_place.ended λ _ key nonce ad buf tag r.
+    pub aegis128l-seal-in-place : Every thin.once.aegis128l_seal_in_place.Symbol.routine thin.once.aegis128l_seal_in_place.ended λ _ key nonce ad buf tag r.
         SealInPlaceMet aegis128l (now (key .entry)) (now (nonce .entry)) (now (ad .entry)) (now (buf .entry)) (now (tag .entry))
         r (now (buf .exit)) (now (tag .exit))
-    pub aegis128l-open : Every oneshot.aegis128l_open.Symbol.routine oneshot.aegis128l_open.ended λ _ key nonce ad ct tag out r.
+    pub aegis128l-open : Every thin.once.aegis128l_open.Symbol.routine thin.once.aegis128l_open.ended λ _ key nonce ad ct tag out r.
         OpenMet aegis128l (now (key .entry)) (now (nonce .entry)) (now (ad .entry)) (now (ct .entry)) (now (tag .entry)) (now (out .entry))
         r (now (out .exit))
-    pub aegis128l-open-in-place : Every oneshot.aegis128l_open_in_place.Symbol.routine oneshot.aegis128l_open_in_place.ended λ _ key nonce ad buf tag r.
+    pub aegis128l-open-in-place : Every thin.once.aegis128l_open_in_place.Symbol.routine thin.once.aegis128l_open_in_place.ended λ _ key nonce ad buf tag r.
         OpenInPlaceMet aegis128l (now (key .entry)) (now (nonce .entry)) (now (ad .entry)) (now (buf .entry)) (now (tag .entry))
         r (now (buf .exit))
-    pub aegis128l-stream : Every oneshot.stream.aegis128l_stream.Symbol.routine oneshot.stream.aegis128l_stream.ended λ _ key nonce out r.
+    pub aegis128l-stream : Every thin.once.aegis128l_stream.Symbol.routine thin.once.aegis128l_stream.ended λ _ key nonce out r.
         StreamMet aegis128l (now (key .entry)) (now (nonce .entry)) (now (out .entry))
         r (now (out .exit))
-    pub aegis128l-stream-xor : Every oneshot.stream.aegis128l_stream_xor.Symbol.routine oneshot.stream.aegis128l_stream_xor.ended λ _ key nonce buf r.
+    pub aegis128l-stream-xor : Every thin.once.aegis128l_stream_xor.Symbol.routine thin.once.aegis128l_stream_xor.ended λ _ key nonce buf r.
         StreamXorMet aegis128l (now (key .entry)) (now (nonce .entry)) (now (buf .entry))
         r (now (buf .exit))
-    pub aegis128l-mac : Every oneshot.mac.aegis128l_mac.Symbol.routine oneshot.mac.aegis128l_mac.ended λ _ key nonce data′ tag r.
+    pub aegis128l-mac : Every thin.once.aegis128l_mac.Symbol.routine thin.once.aegis128l_mac.ended λ _ key nonce data′ tag r.
         MacMet aegis128l aegis128lMac (now (key .entry)) (now (nonce .entry)) (now (data′ .entry)) (now (tag .entry))
         r (now (tag .exit))
-    pub aegis128l-mac-check : Every oneshot.mac.aegis128l_mac_check.Symbol.routine oneshot.mac.aegis128l_mac_check.ended λ _ key nonce data′ tag r.
+    pub aegis128l-mac-check : Every thin.once.aegis128l_mac_check.Symbol.routine thin.once.aegis128l_mac_check.ended λ _ key nonce data′ tag r.
         MacCheckMet aegis128l aegis128lMac (now (key .entry)) (now (nonce .entry)) (now (data′ .entry)) (now (tag .entry))
         r
     -- ---- the starts: what the lent session held does not matter

@@ -1,5 +1,4 @@
-// The one-shots, exported to C and Rust: each argument is a pointer and a length, each result an answer of document 01. The tag size is
-// the length of the tag buffer. A call asks nothing of its caller; one equation says what it answers and what every lent buffer holds.
+// The one-shots, on byte slices; crates/thin exports them. Each result is an answer of document 01. The tag size is the length of the tag buffer. A call asks nothing of its caller; one equation says what it answers and what every lent buffer holds.
 ghost use mathlib.Core.Path.{_≡_};
 ghost use mathlib.Core.Bool.{true};
 ghost use Prim.Native.Nat.{_≤_};
@@ -57,8 +56,7 @@ fn opened(key: &[u8], nonce: &[u8], ad: &[u8], tag: &[u8], buf: &mut [u8]) -> bo
     verified(e, ad.len() as u64, buf.len() as u64, tag, &t)
 }
 
-#[no_mangle]
-pub extern "C" fn aegis128l_seal(
+pub fn aegis128l_seal(
     key: &[u8],
     nonce: &[u8],
     ad: &[u8],
@@ -86,8 +84,7 @@ pub extern "C" fn aegis128l_seal(
     answers::DONE
 }
 
-#[no_mangle]
-pub extern "C" fn aegis128l_seal_in_place(
+pub fn aegis128l_seal_in_place(
     key: &[u8],
     nonce: &[u8],
     ad: &[u8],
@@ -105,8 +102,7 @@ pub extern "C" fn aegis128l_seal_in_place(
     answers::DONE
 }
 
-#[no_mangle]
-pub extern "C" fn aegis128l_open(
+pub fn aegis128l_open(
     key: &[u8],
     nonce: &[u8],
     ad: &[u8],
@@ -137,8 +133,7 @@ pub extern "C" fn aegis128l_open(
     answers::TAG_DIFFERS
 }
 
-#[no_mangle]
-pub extern "C" fn aegis128l_open_in_place(
+pub fn aegis128l_open_in_place(
     key: &[u8],
     nonce: &[u8],
     ad: &[u8],

@@ -21,8 +21,7 @@ fn mac_state(key: &[u8], nonce: &[u8], data: &[u8], t: &[u8; 256]) -> State
     aegis128l_core::absorb_ad(s, data, t)
 }
 
-#[no_mangle]
-pub extern "C" fn aegis128l_mac(key: &[u8], nonce: &[u8], data: &[u8], tag: &mut [u8]) -> u8
+pub fn aegis128l_mac(key: &[u8], nonce: &[u8], data: &[u8], tag: &mut [u8]) -> u8
     ensures { λ r. ⌜ MacMet aegis128l aegis128lMac (now (key .entry)) (now (nonce .entry)) (now («data» .entry)) (now (tag .entry)) r (now (tag .exit)) ⌝ }
 {
     let a = answers::once::mac(16, tag.len(), key.len(), nonce.len(), data.len());
@@ -35,8 +34,7 @@ pub extern "C" fn aegis128l_mac(key: &[u8], nonce: &[u8], data: &[u8], tag: &mut
     answers::DONE
 }
 
-#[no_mangle]
-pub extern "C" fn aegis128l_mac_check(key: &[u8], nonce: &[u8], data: &[u8], tag: &[u8]) -> u8
+pub fn aegis128l_mac_check(key: &[u8], nonce: &[u8], data: &[u8], tag: &[u8]) -> u8
     ensures { λ r. ⌜ MacCheckMet aegis128l aegis128lMac (now (key .entry)) (now (nonce .entry)) (now («data» .entry)) (now (tag .entry)) r ⌝ }
 {
     let a = answers::once::mac(16, tag.len(), key.len(), nonce.len(), data.len());

@@ -4,8 +4,7 @@ ghost use Rattle.promises.specs.Met.{StreamMet, StreamXorMet};
 ghost use Rattle.aegis128l.specs.Cipher.{aegis128l};
 use aegis128l::state::State;
 
-#[no_mangle]
-pub extern "C" fn aegis128l_stream(key: &[u8], nonce: &[u8], out: &mut [u8]) -> u8
+pub fn aegis128l_stream(key: &[u8], nonce: &[u8], out: &mut [u8]) -> u8
     ensures { λ r. ⌜ StreamMet aegis128l (now (key .entry)) (now (nonce .entry)) (now (out .entry)) r (now (out .exit)) ⌝ }
 {
     let a = answers::once::stream(16, key.len(), nonce.len());
@@ -19,8 +18,7 @@ pub extern "C" fn aegis128l_stream(key: &[u8], nonce: &[u8], out: &mut [u8]) -> 
     answers::DONE
 }
 
-#[no_mangle]
-pub extern "C" fn aegis128l_stream_xor(key: &[u8], nonce: &[u8], buf: &mut [u8]) -> u8
+pub fn aegis128l_stream_xor(key: &[u8], nonce: &[u8], buf: &mut [u8]) -> u8
     ensures { λ r. ⌜ StreamXorMet aegis128l (now (key .entry)) (now (nonce .entry)) (now (buf .entry)) r (now (buf .exit)) ⌝ }
 {
     let a = answers::once::stream(16, key.len(), nonce.len());

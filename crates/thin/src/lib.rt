@@ -1,10 +1,12 @@
-// The thin form of sessions: the caller lends its session, and each call changes it in place. Each calls the function by value. All are proved
+// All that is exported to C and Rust: the one-shots (once.rt), and here the thin form of sessions: the caller lends its session, and each call changes it in place. Each calls the function by value. All are proved
 // by one walk over what the compiler makes of them (proofs/Walk.antt), for any struct that is lent.
 ghost use Rattle.promises.specs.Met.{SealStartMet, OpenStartMet, MacStartMet, SealPieceMet, SealPieceInPlaceMet, SealFinishMet, OpenPieceMet, OpenFinishMet, AbortMet, MacPieceMet, MacFinishMet, MacFinishCheckMet};
 ghost use Rattle.aegis128l.specs.Cipher.{aegis128l, aegis128lMac};
 ghost use Rattle.session.specs.View.{sessionOf};
 use session::Opened;
 use session::Session;
+
+pub mod once;
 
 // The starts only write the lent session: what it held does not matter.
 #[no_mangle]
