@@ -76,12 +76,13 @@ module _ {S : Type 0} (C : Cipher S) (M : Mac S) (key nonce : List ℕ) (n : ℕ
     pub refuses-size : (tag : List ℕ) → length tag ≢ n → Macing (cs ▸ macFinish tag 1 tag)
     refuses-size tag d = next t (macFinish tag 1 tag) (t .last) (refuses-1 (t .last) is-live tag (λ e. d (e ∙ counts .1)))
 
-    pub macs-all : (tag : List ℕ) → length tag ≡ n → (tag′ : List ℕ) × Macing (cs ▸ macFinish tag 0 tag′)
-    macs-all tag e =
-        let r = session.macFinish C M (t .last) tag in
-        let u = next t (macFinish tag (r .answer) (r .out)) (r .session) refl in
-        let z = macs.mac-session-finishes C M key nonce n tag (r .answer) (r .out) u (starts u) going e .0 in
-        (r .out, subst (λ (a : ℕ). Macing (cs ▸ macFinish tag a (r .out))) z u)
+    pub macs-all : (data′ : List ℕ) → taken cs ≡ data′ → Macing (cs ▸ macFinish (zeros n) 0 (macTag C M key nonce data′ n))
+    macs-all data′ e =
+        let r = session.macFinish C M (t .last) (zeros n) in
+        let u = next t (macFinish (zeros n) (r .answer) (r .out)) (r .session) refl in
+        let z = macs.mac-session-finishes C M key nonce n (zeros n) (r .answer) (r .out) u (starts u) going (length-replicate n 0) in
+        subst (λ (a : ℕ). Macing (cs ▸ macFinish (zeros n) a (macTag C M key nonce data′ n))) (z .0)
+        (subst (λ (tag : List ℕ). Macing (cs ▸ macFinish (zeros n) (r .answer) tag)) (z .1 ∙ ap (λ (xs : List ℕ). macTag C M key nonce xs n) e) u)
 
     pub checks-all : (tag : List ℕ) → length tag ≡ n → (a : ℕ) → MacCheckMet C M key nonce (taken cs) tag a → Macing (cs ▸ macFinishCheck tag a)
     checks-all tag e a m =
@@ -100,7 +101,8 @@ module _ {S : Type 0} (C : Cipher S) (M : Mac S) (key nonce : List ℕ) (n : ℕ
   pub record TwoPieces (p q : List ℕ) : Type 0 where
     pub going : Going (twoCalls p q)
     pub took : taken (twoCalls p q) ≡ p ++ q
-    pub finished : (tag : List ℕ) × Macing (twoCalls p q ▸ macFinish (zeros n) 0 tag)
+    -- its ends
+    pub finished : Macing (twoCalls p q ▸ macFinish (zeros n) 0 (macTag C M key nonce (p ++ q) n))
     pub checked : Macing (twoCalls p q ▸ macFinishCheck (macTag C M key nonce (p ++ q) n) 0)
     pub refused : Macing (twoCalls p q ▸ macFinishCheck (other (macTag C M key nonce (p ++ q) n)) 7)
     pub aborted : Macing (twoCalls p q ▸ abort p 0 p)
@@ -120,7 +122,7 @@ module _ {S : Type 0} (C : Cipher S) (M : Mac S) (key nonce : List ℕ) (n : ℕ
       record {
         going = going;
         took = took;
-        finished = macs-all t₃ going (zeros n) (length-replicate n 0);
+        finished = macs-all t₃ going (p ++ q) took;
         checked = checks-all t₃ going mac mac-long 0 (rw took (calls.checked C M key nonce [] n fixed (p ++ q) within));
         refused = checks-all t₃ going (other mac) (other-length mac ∙ mac-long) 7 (rw took (calls.check-refused C M key nonce [] n fixed (p ++ q) within));
         aborted = aborts t₃ going p;
