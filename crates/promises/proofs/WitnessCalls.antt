@@ -2,9 +2,9 @@
 -- the limit is sealed into every buffer with room, its sealed form is opened and with another tag refused, and its MAC is made, checked and with
 -- another tag refused. In place the buffer is the message, or the ciphertext.
 -- Assumes nothing.
-use Prim.Native.Nat.{ℕ, _≤_, _<_}
+use Prim.Native.Nat.{ℕ, _≤_}
 use mathlib.Core.Path.{_≡_, refl, sym, ap, _∙_}
-use mathlib.Core.List.{List, []}
+use mathlib.Core.List.{List}
 use lib.ListN.{length, replicate, length-replicate}
 use Rattle.machine.specs.Bytes.{zeros}
 use Rattle.machine.specs.Kinds.{keystream, streamXor}
@@ -12,7 +12,7 @@ use Rattle.answers.specs.Answers.{limit}
 use Rattle.answers.proofs.Answers.{tag-size-positive}
 use Rattle.promises.specs.Cipher.{Cipher, Mac}
 use Rattle.promises.specs.Allowed.{Allowed}
-use Rattle.promises.specs.OneShot.{onto, ciphertext, plaintext, sealTag, openTag, macTag}
+use Rattle.promises.specs.OneShot.{onto, ciphertext, sealTag, openTag, macTag}
 use Rattle.promises.specs.Met.{SealMet, OpenMet, StreamMet, StreamXorMet, MacMet, MacCheckMet}
 use Rattle.promises.specs.Calls.{SealCall, OpenCall}
 use Rattle.promises.specs.Demands.{SealedAs}

@@ -6,7 +6,7 @@ use Prim.Native.Nat.{ℕ, suc, _+_, _≤_}
 use mathlib.Core.Path.{_≡_, refl, sym, ap, subst, _∙_}
 use mathlib.Core.Bool.{true}
 use mathlib.Core.Logic.{_≢_}
-use mathlib.Core.List.{List, [], _∷_, _++_, append-nil}
+use mathlib.Core.List.{List, [], _++_, append-nil}
 use native.Mathlib.Omega.{arith}
 use lib.Dec.{lit≤}
 use lib.ListN.{length, length-append, length-replicate}
@@ -43,7 +43,7 @@ module _ {S : Type 0} (C : Cipher S) (M : Mac S) (key nonce : List ℕ) (n : ℕ
   abbrev next : {cs : Calls} (t : Macing cs) (c : Made) (s′ : Session S) → Met C M (t .last) c s′ → Macing (cs ▸ c)
   next t c s′ m = record { started = t .started; first = t .first; last = s′; start-met = t .start-met; trace = made (t .trace) c m }
 
-  starts : {cs : Calls} (t : Macing cs) → t .started ≡ 0
+  pub starts : {cs : Calls} (t : Macing cs) → t .started ≡ 0
   starts t = macs.mac-session-starts C M key nonce n t fixed
 
   takes : (s : Session S) → live (C .machine .rate) macing s ≡ true → (data′ : List ℕ) → s .msgLength + length data′ ≤ limit
@@ -101,6 +101,7 @@ module _ {S : Type 0} (C : Cipher S) (M : Mac S) (key nonce : List ℕ) (n : ℕ
   pub record TwoPieces (p q : List ℕ) : Type 0 where
     pub going : Going (twoCalls p q)
     pub took : taken (twoCalls p q) ≡ p ++ q
+    pub maced : Macing (twoCalls p q)
     -- its ends
     pub finished : Macing (twoCalls p q ▸ macFinish (zeros n) 0 (macTag C M key nonce (p ++ q) n))
     pub checked : Macing (twoCalls p q ▸ macFinishCheck (macTag C M key nonce (p ++ q) n) 0)
@@ -122,6 +123,7 @@ module _ {S : Type 0} (C : Cipher S) (M : Mac S) (key nonce : List ℕ) (n : ℕ
       record {
         going = going;
         took = took;
+        maced = t₃;
         finished = macs-all t₃ going (p ++ q) took;
         checked = checks-all t₃ going mac mac-long 0 (rw took (calls.checked C M key nonce [] n fixed (p ++ q) within));
         refused = checks-all t₃ going (other mac) (other-length mac ∙ mac-long) 7 (rw took (calls.check-refused C M key nonce [] n fixed (p ++ q) within));

@@ -17,7 +17,7 @@ use Rattle.answers.proofs.Answers.{tag-size-positive}
 use Rattle.promises.specs.Cipher.{Cipher, Mac}
 use Rattle.promises.specs.Allowed.{Allowed}
 use Rattle.promises.specs.OneShot.{onto, ciphertext, plaintext, sealTag, openTag}
-use Rattle.promises.specs.Session.{Session, opening, ended, live, openStart}
+use Rattle.promises.specs.Session.{Session, opening, live, openStart}
 use Rattle.promises.specs.Session as session
 use Rattle.promises.specs.Met.{OpenStartMet}
 use Rattle.promises.specs.Trace.{Made, openPiece, openFinish, abort, Calls, none, _▸_, taken, Going, Over, Keeps, AllLentOther}
@@ -55,7 +55,7 @@ module _ {S : Type 0} (C : Cipher S) (M : Mac S) (key nonce ad : List ℕ) (n : 
     buffer = kept (t .buffer) c k;
   }
 
-  starts : {cs : Calls} {p : List ℕ} (t : Opening cs p) → t .started ≡ 0
+  pub starts : {cs : Calls} {p : List ℕ} (t : Opening cs p) → t .started ≡ 0
   starts t = openings.open-session-starts C M key nonce ad n p₀ t fixed
 
   -- a buffer of another length than the room

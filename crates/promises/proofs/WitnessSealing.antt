@@ -38,7 +38,7 @@ module _ {S : Type 0} (C : Cipher S) (M : Mac S) (key nonce ad : List ℕ) (n : 
   abbrev next : {cs : Calls} (t : Sealing cs) (c : Made) (s′ : Session S) → Met C M (t .last) c s′ → Sealing (cs ▸ c)
   next t c s′ m = record { started = t .started; first = t .first; last = s′; start-met = t .start-met; trace = made (t .trace) c m }
 
-  starts : {cs : Calls} (t : Sealing cs) → t .started ≡ 0
+  pub starts : {cs : Calls} (t : Sealing cs) → t .started ≡ 0
   starts t = sealings.seal-session-starts C M key nonce ad n t fixed
 
   -- a piece whose two buffers differ in length

@@ -3,10 +3,10 @@
 -- WitnessOpening, WitnessMac): they are there for every key, message and cut.
 -- Assumes nothing.
 use Prim.Native.Nat.{ℕ, zero, _+_, _-_, _≤_, _<_, zero-le}
-use mathlib.Core.Path.{_≡_, refl, sym, ap, _∙_}
-use mathlib.Core.Logic.{inl, inr, _≢_}
-use mathlib.Core.List.{List, [], _∷_, _++_}
-use native.Mathlib.Nat.{le-refl, le-of-eq}
+use mathlib.Core.Path.{_≡_, refl, sym, _∙_}
+use mathlib.Core.Logic.{inl, inr}
+use mathlib.Core.List.{List, [], _∷_}
+use native.Mathlib.Nat.{le-refl}
 use native.Mathlib.Omega.{arith}
 use lib.Dec.{eqb, lit<}
 use lib.ListN.{length, take, drop, replicate, length-replicate, take-append-drop}
@@ -18,21 +18,19 @@ use Rattle.promises.specs.Allowed.{Allowed}
 use Rattle.promises.specs.OneShot.{onto, ciphertext, sealTag, macTag}
 use Rattle.promises.specs.Session.{Session, pick}
 use Rattle.promises.specs.AnyCall.{askSeal, askOpen, on}
-use Rattle.promises.specs.Trace.{Made, sealFinish, none, _▸_, Trace, at-start, made, askSealPiece}
-use Rattle.promises.specs.Interleaved.{Interleaving, nothing, and-then, put, Interleaved, not-yet, one-more}
+use Rattle.promises.specs.Trace.{Made, sealFinish, none, _▸_, Trace, at-start, made, askSealPiece, askMacPiece, askMacFinish}
+use Rattle.promises.specs.Interleaved.{Interleaving, nothing, and-then, Interleaved, not-yet, one-more}
 use Rattle.promises.specs.Demands.{Demand1, Demand2, Demand3, SealedAs, all-of, and-more}
 use Rattle.promises.proofs.Texts.{ciphertext-length, sealTag-length, macTag-length}
 use Rattle.promises.proofs.Other.{other, other-length, other-differs}
 use Rattle.promises.proofs.Traces.{trace-before}
-use Rattle.promises.proofs.TracesSealing as seals
-use Rattle.promises.proofs.TracesOpening as opens
-use Rattle.promises.proofs.TracesMac as mac
 use Rattle.promises.proofs.WitnessCalls as calls
 use Rattle.promises.proofs.WitnessSealing as sealings
 use Rattle.promises.proofs.WitnessOpening as openings
 use Rattle.promises.proofs.WitnessOpening.{unlike, unlike-room, unlike-first}
 use Rattle.promises.proofs.WitnessMac as macs
-use Rattle.promises.proofs.WitnessKey.{someKey, someNonce, someData, firstPart, secondPart, someMessage, some-message-length, bytes-replicate}
+use Rattle.promises.proofs.WitnessKey.{someKey, someNonce, someData, firstPart, secondPart, someMessage}
+use Rattle.promises.proofs.WitnessKey.{Mixed, some-key-mixed, some-nonce-mixed, first-part-length, some-message-length, bytes-replicate}
 
 -- what the fields say of the instances, one proof behind the other
 infixr 5 _also_
@@ -75,6 +73,10 @@ module _ {S : Type 0} (C : Cipher S) (M : Mac S) (keyed : zero < C .size) (in-li
 
   long : length msg ≡ machine .rate + 1
   long = some-message-length (machine .rate) (machine .rate-positive)
+
+  -- neither all 00 nor all ff; and more than a block, of which the first piece is a part
+  pub chosen : Mixed key × Mixed nonce × (length p < machine .rate) × (machine .rate < length msg)
+  chosen = (some-key-mixed size keyed, some-nonce-mixed size keyed, first-part-length (machine .rate) (machine .rate-positive), omega (arith, long))
 
   within : length msg ≤ limit
   within = omega (arith, long)
@@ -130,17 +132,24 @@ module _ {S : Type 0} (C : Cipher S) (M : Mac S) (keyed : zero < C .size) (in-li
       let piece = trace-before C M (trace-before C M (sealing .sealed .trace) .1) in
       let finish = trace-before C M (sealing .finished .trace) in
       let later = openings.opens-no-more C M key nonce someData 16 fixed (unlike msg) (opening .refused .2) (inr (inr refl)) msg in
-      let started = opens.open-session-starts C M key nonce someData 16 (unlike msg) (opening .aborted .1) fixed in
+      -- two copies of a MAC session: one is finished, and one takes more
+      let copy = d .any-order (macing .maced .last) (askMacFinish (zeros 16) ∷ []) in
+      let copy₂ = d .any-order (macing .maced .last) (askMacPiece msg ∷ askMacFinish (zeros 16) ∷ []) in
       let changed = openings.first-changed C M key nonce someData 16 fixed (unlike msg) opening some (unlike-first msg some) in
       d .one-answer (askSeal key nonce someData msg msg (zeros 16)) 0 0 (onto ct msg, due) (onto ct msg, due) sealed sealed
+      also d .any-copy (macing .maced .trace) (copy .3)
+      also d .any-copy (macing .maced .trace) (copy₂ .3)
       also d .any-sessions (turns .1)
       also d .first-applies (askOpen key nonce someData ct (other due) (unlike msg)) 7 (onto (replicate (length ct) 0xaa) (unlike msg)) (wrong (unlike msg) room) 7
       also d .refused (on (piece .0) (askSealPiece (0 ∷ secondPart) secondPart)) 9 (_, secondPart) (piece .2) (λ e. omega arith) (λ e. omega arith)
       also d .ends (finish .0) (sealing .finished .last) (sealFinish (zeros 16) 0 due) (finish .2) refl
       also d .over (later .trace) (inr (inr refl))
-      also d .abort-sealing (sealing .aborted) (seals.seal-session-starts C M key nonce someData 16 (sealing .aborted) fixed) (sealing .going)
-      also d .abort-mac (macing .aborted) (mac.mac-session-starts C M key nonce 16 (macing .aborted) (some-allowed [] zero-le)) (macing .going)
-      also d .abort-opening (opening .aborted .1) started (opening .going) (opening .own)
+      also d .sealing-record (sealing .sealed) (sealings.starts C M key nonce someData 16 fixed (sealing .sealed)) (sealing .going)
+      also d .opening-record (opening .opened) (openings.starts C M key nonce someData 16 fixed (unlike msg) (opening .opened)) (opening .going)
+      also d .mac-record (macing .maced) (macs.starts C M key nonce 16 (some-allowed [] zero-le) (macing .maced)) (macing .going)
+      also d .abort-sealing (sealing .aborted) (sealings.starts C M key nonce someData 16 fixed (sealing .aborted)) (sealing .going)
+      also d .abort-mac (macing .aborted) (macs.starts C M key nonce 16 (some-allowed [] zero-le) (macing .aborted)) (macing .going)
+      also d .abort-opening (opening .aborted .1) (openings.starts C M key nonce someData 16 fixed (unlike msg) (opening .aborted .1)) (opening .going) (opening .own)
       also d .other-room key nonce someData 16 (length (0 ∷ msg)) (other-room .first) (other-room .start-met) (other-room .trace) (other-room .lent-other)
       also d .wrong-tag key nonce someData ct (other due) (unlike msg) 7 _ (wrong (unlike msg) room) refl
       also d .wrong-tag-in-place key nonce someData ct (other due) 7 _ (wrong ct (le-refl (length ct))) refl
