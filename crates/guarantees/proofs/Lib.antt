@@ -1,9 +1,3 @@
 -- What a user may rely on.
-pub mod Sizes
-pub mod Outcomes
-pub mod Sealing
-pub mod InPlace
-pub mod Macs
-pub mod Sessions
-pub mod Witnesses
 pub mod Demands
+pub mod Witnesses

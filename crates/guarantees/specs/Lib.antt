@@ -1,3 +1,2 @@
--- The calls that the guarantees speak of.
-pub mod Calls
+-- Traces of the code.
 pub mod CodeTrace
