@@ -5,18 +5,22 @@ use Prim.Native.Nat.{ℕ, _+_, _-_, _/_, _%_, _≤_}
 use mathlib.Core.Path.{_≡_, refl, sym, ap, _∙_}
 use mathlib.Core.Bool.{true}
 use mathlib.Core.List.{List, [], _∷_, _++_, append-assoc, append-nil}
+use native.Mathlib.Nat.{le-refl}
 use native.Mathlib.Omega.{arith}
+use lib.Dec.{lit≤}
 use lib.ListN.{length, take, drop, getD, length-append}
 use lib.Seq.{take-at, drop-at, getD-at}
 use Rattle.machine.specs.Bytes.{zeros}
 use Rattle.answers.specs.Answers.{tagSize}
-use Rattle.promises.specs.OneShot.{openInPlaceOf}
+use Rattle.promises.specs.Allowed.{Allowed}
+use Rattle.promises.specs.OneShot.{SealLeft, openInPlaceOf}
 use Rattle.promises.proofs.Forms.{SealedForm, form-length, due-form}
 use Rattle.promises.proofs.Onto.{onto-whole}
 use Rattle.promises.proofs.Lengths.{seal-tag-length}
 use Rattle.promises.proofs.SealAnswers.{seal-zero}
 use Rattle.promises.proofs.OpenAnswers.{open-zero}
-use Rattle.promises.proofs.OneForm.{seals, Done, seal-writes, opens-to, done-zeros}
+use Rattle.promises.proofs.OneForm.{seals, Done, seal-answers, seal-writes, opens-to}
+use Rattle.promises.proofs.WitnessKey.{someKey, someNonce, someData}
 use Rattle.aegis128l.specs.Cipher.{aegis128l}
 use Rattle.hub_record.specs.Record.{adLimit, textLimit, headSize, between, tagSizeIn, adLengthIn, textStart, textEnd, shape}
 use Rattle.hub_record.specs.Record.{partsBy, partsIn, RecordLeft, openParts, openRecordOf}
@@ -225,13 +229,16 @@ module _ (key nonce ad msg out tagBuf : List ℕ) (done : Done aegis128l key non
       ≡ record { answer = 0; start = headSize + length ad; length = length msg; input = recordOf key nonce ad msg sealedTag }
   seal-makes-records a t = sealed-record-opens key nonce ad sealedText sealedTag (fitting a t) msg form
 
--- the witness: any message within the limit, under a key and a nonce of zeros, makes a record that opens
+-- the witness: any message within the limit, under a key and a nonce that are neither all 00 nor all ff, makes a record that opens
 pub opened-witness : (msg : List ℕ) → length msg ≤ textLimit → (l : List ℕ) × ((openRecordOf l) .answer ≡ 0)
-opened-witness msg t = (
-  _,
-  ap (λ (r : RecordLeft). r .answer)
-      (seal-makes-records (zeros 16) (zeros 16) [] msg msg (zeros 16) (done-zeros aegis128l msg (omega arith)) (omega arith) t),
-)
+opened-witness msg t =
+    let fixed : Allowed aegis128l (someKey 16) (someNonce 16) someData 16 =
+    record { key-size = refl; nonce-size = refl; ad-fits = lit≤ tt; tag-size = refl } in
+    let done = ap (λ (r : SealLeft). r .answer)
+    (seal-answers aegis128l (someKey 16) (someNonce 16) someData msg msg (zeros 16) fixed (omega arith) (le-refl (length msg))) in (
+      _,
+      ap (λ (r : RecordLeft). r .answer) (seal-makes-records (someKey 16) (someNonce 16) someData msg msg (zeros 16) done (omega arith) t),
+    )
 
 -- ---- the other way round: a record that opens holds the sealed form of its plaintext
 
