@@ -77,7 +77,7 @@ FILENAME ~ /[.]md$/ {
 
 FNR == 1 { pending = ""; fields = public_head = -1 }
 {
-    if (FILENAME ~ /[.]rt$/) sub(/[/][/].*/, "")
+    if (FILENAME ~ /[.]rt$/) { sub(/[/][/].*/, ""); gsub(/[!&]/, " ") }
     else if (match($0, /(^|[ \t])--([ \t-]|$)/)) $0 = substr($0, 1, RSTART - 1)
     if (pending != "" || /^ *((pub|ghost) )*use .*[{][^}]*$/) {
         pending = pending $0

@@ -3,18 +3,18 @@
 use Prim.Native.Nat.{ℕ, zero, suc}
 use mathlib.Core.Path.{_≡_, refl, sym, ap, _∙_}
 use mathlib.Core.Bool.{Bool, true, false}
-use mathlib.Core.List.{List, _++_}
+use mathlib.Core.List.{List}
 use native.Mathlib.Nat.{suc-ne-zero}
-use lib.ListN.{length, take, drop}
+use lib.ListN.{length}
 use Rattle.machine.specs.Machine.{Machine, enc, dec, after, out}
 use Rattle.machine.specs.Kinds.{silent}
 use Rattle.answers.specs.Answers as answers
 use Rattle.lent.specs.Lent.{same}
 use Rattle.lent.proofs.Same.{same-equal}
 use Rattle.promises.specs.Cipher.{Cipher, Mac}
-use Rattle.promises.specs.OneShot.{onDone, onto, keyed}
-use Rattle.promises.specs.Session.{Session, Handed, Wrote, Opened, core, live, advanced, wroteMore, started, sealing, opening, macing}
-use Rattle.promises.specs.Session.{ended, sealStart, openStart, macStart, sealPiece, sealPieceInPlace, openPiece, macPiece}
+use Rattle.promises.specs.OneShot.{onDone, keyed}
+use Rattle.promises.specs.Session.{Session, Handed, Wrote, core, live, advanced, wroteMore, started, sealing, opening, macing}
+use Rattle.promises.specs.Session.{sealStart, openStart, macStart, sealPiece, sealPieceInPlace, openPiece, macPiece}
 use Rattle.promises.specs.Session.{sessionTag, sessionMac, sealFinish, macFinish, openFinish, released}
 
 done : {A : Type 0} (answer : A → ℕ) (a : ℕ) (refused : ℕ → A) (work : A) → ((b : ℕ) → answer (refused b) ≡ b)

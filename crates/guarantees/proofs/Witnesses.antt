@@ -1,7 +1,7 @@
 -- None of the demands is idle at AEGIS-128L: each field that takes something as given is applied to an instance of it, under a key and a nonce that are
 -- neither all 00 nor all ff, with a message of 33 bytes, of which the first piece has 31.
 -- Assumes nothing.
-use Prim.Native.Nat.{ℕ, _<_}
+use Prim.Native.Nat.{_<_}
 use lib.Dec.{lit<, lit≤}
 use lib.ListN.{length}
 use Rattle.promises.proofs.WitnessKey.{Mixed, someKey, someNonce, someData, firstPart, someMessage}

@@ -9,7 +9,7 @@ use lib.ListN.{length, getD, set, take}
 use lib.Bits.{bitXor, bitAnd, xor-lt, and-lt}
 use Rattle.machine.specs.Bytes.{zeros, padTo, Bytes}
 use Rattle.machine.specs.Machine.{Machine, Core, Mode, enc, dec, plain, start, current, key, code, settled, next, after, out, close}
-use Rattle.machine.specs.Draft.{draftAbsorb, draftEncrypt, draftDecrypt, draftDecryptState}
+use Rattle.machine.specs.Draft.{draftAbsorb, draftEncrypt, draftDecrypt}
 use Rattle.machine.proofs.Draft as draft
 
 pub xor-byte : (a b : ℕ) → a < 256 → b < 256 → bitXor a b < 256
@@ -114,6 +114,3 @@ module _ {S : Type 0} (M : Machine S) (P : S → Type 0) where
 
     pub decrypt-bytes : (s : S) (ct : List ℕ) → P s → Bytes ct → Bytes (draftDecrypt M s ct)
     decrypt-bytes s ct p b = subst Bytes (draft.decrypts M s ct) (out-bytes dec (start M s) ct (start-clean s p) b)
-
-    pub decrypt-state : (s : S) (ct : List ℕ) → P s → Bytes ct → P (draftDecryptState M s ct)
-    decrypt-state s ct p b = subst P (draft.decrypts-state M s ct) (close-clean (after M dec (start M s) ct) (after-clean dec (start M s) ct (start-clean s p) b))

@@ -23,14 +23,14 @@ size-limit n h = omega (arith, size-fits n h)
 
 -- the first n bytes are lent, as n - 0 bytes from 0 on
 module _ (l : List ℕ) (n : ℕ) (h : n ≤ length l) where
-  pub lent-length : length (take (n - 0) l) ≡ n
+  lent-length : length (take (n - 0) l) ≡ n
   lent-length = let e : n - 0 ≡ n = omega arith in length-take-le (n - 0) l (omega arith) ∙ e
 
   pub lent-size : tagSize n ≡ true → tagSize (length (take (n - 0) l)) ≡ true
   lent-size t = ap tagSize lent-length ∙ t
 
   -- and are read again as they came back
-  pub read-back : (t : List ℕ) → length t ≡ n → take (n - 0) (t ++ drop (n - 0) l) ≡ t
+  read-back : (t : List ℕ) → length t ≡ n → take (n - 0) (t ++ drop (n - 0) l) ≡ t
   read-back t q = let e : n ≡ n - 0 = omega arith in take-at t (drop (n - 0) l) (n - 0) (q ∙ e)
 
 -- the tag of n bytes, made in the first n of 32 zeros

@@ -1,5 +1,4 @@
 // The keystream, and a message under it, with no tag.
-ghost use mathlib.Core.Path.{_≡_};
 ghost use Rattle.promises.specs.Met.{StreamMet, StreamXorMet};
 ghost use Rattle.aegis128l.specs.Cipher.{aegis128l};
 use aegis128l::state::State;

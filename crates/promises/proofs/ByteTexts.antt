@@ -2,14 +2,13 @@
 -- message whose sealed form opening accepts is a list of bytes.
 -- Assumes nothing.
 use Prim.Native.Nat.{ℕ}
-use mathlib.Core.Path.{_≡_, subst}
+use mathlib.Core.Path.{subst}
 use mathlib.Core.List.{List}
 use lib.ListN.{length}
-use Rattle.machine.specs.Machine.{Machine}
 use Rattle.machine.specs.Bytes.{Bytes}
-use Rattle.machine.proofs.ByteLists.{absorb-bytes, encrypt-bytes, decrypt-bytes, decrypt-state}
+use Rattle.machine.proofs.ByteLists.{absorb-bytes, encrypt-bytes, decrypt-bytes}
 use Rattle.promises.specs.Cipher.{Cipher}
-use Rattle.promises.specs.OneShot.{keyed, ciphertext, plaintext, sealTag, openTag}
+use Rattle.promises.specs.OneShot.{keyed, ciphertext, plaintext, sealTag}
 use Rattle.promises.proofs.Forms.{SealedForm, form-plaintext}
 
 pub record Bytewise {S : Type 0} (C : Cipher S) : Type 1 where
@@ -31,17 +30,13 @@ module _ {S : Type 0} (C : Cipher S) (B : Bytewise C) (key nonce ad : List ℕ) 
   unfolding ciphertext
   ciphertext-bytes msg b = encrypt-bytes machine (B .P) (B .begins) (B .absorbs) (keyed C key nonce ad) msg keyed-bytes b
 
-  pub plaintext-bytes : (ct : List ℕ) → Bytes ct → Bytes (plaintext C key nonce ad ct)
+  plaintext-bytes : (ct : List ℕ) → Bytes ct → Bytes (plaintext C key nonce ad ct)
   unfolding plaintext
   plaintext-bytes ct b = decrypt-bytes machine (B .P) (B .begins) (B .absorbs) (keyed C key nonce ad) ct keyed-bytes b
 
   pub sealTag-bytes : (msg : List ℕ) (n : ℕ) → Bytes msg → Bytes (sealTag C key nonce ad msg n)
   unfolding sealTag
   sealTag-bytes msg n b = B .tags _ (length ad) (length msg) n (absorb-bytes machine (B .P) (B .begins) (B .absorbs) (keyed C key nonce ad) msg keyed-bytes b)
-
-  pub openTag-bytes : (ct : List ℕ) (n : ℕ) → Bytes ct → Bytes (openTag C key nonce ad ct n)
-  unfolding openTag
-  openTag-bytes ct n b = B .tags _ (length ad) (length ct) n (decrypt-state machine (B .P) (B .begins) (B .absorbs) (keyed C key nonce ad) ct keyed-bytes b)
 
   -- the message of a sealed form of bytes is of bytes
   pub sealed-message-bytes : (msg ct tag : List ℕ) → SealedForm C key nonce ad msg ct tag → Bytes ct → Bytes msg

@@ -1,10 +1,10 @@
 -- Demand 1, for every cipher.
 -- Assumes nothing.
-use Prim.Native.Nat.{ℕ, _≤_, _<_}
+use Prim.Native.Nat.{ℕ, _≤_}
 use mathlib.Core.Path.{_≡_, refl, sym, ap, _∙_}
 use mathlib.Core.Bool.{Bool, true, false}
 use mathlib.Core.Logic.{_⊎_, inl, inr, _≢_}
-use mathlib.Core.List.{List, _++_}
+use mathlib.Core.List.{List}
 use native.Mathlib.Nat.{le-refl, le-trans}
 use native.Mathlib.Omega.{arith}
 use lib.Dec.{leb}
@@ -12,9 +12,9 @@ use lib.ListN.{length, getD, length-append}
 use borrow.Author.Tests.{leb-true, leb-false}
 use Rattle.promises.specs.Cipher.{Cipher, Mac}
 use Rattle.promises.specs.OneShot.{Left}
-use Rattle.promises.specs.Trace.{Made, Calls, _▸_, taken, input, Refused, OpenSession}
+use Rattle.promises.specs.Trace.{Calls, taken, input, Refused, OpenSession}
 use Rattle.promises.specs.Demands.{Demand1, FirstOf, all-of, and-more}
-use Rattle.promises.proofs.Refusals.{open-erases}
+use Rattle.promises.proofs.OpenAnswers.{open-erases}
 use Rattle.promises.proofs.InPlace.{open-in-place-erases}
 use Rattle.promises.proofs.ExactlyOne.{call-answered, call-one-answer}
 use Rattle.promises.proofs.ExactlyFirst.{first-applies}

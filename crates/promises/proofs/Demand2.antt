@@ -1,6 +1,6 @@
 -- Demand 2, for every cipher: with answer 0 each one-shot gives what the draft's text gives.
 -- Assumes nothing.
-use Prim.Native.Nat.{ℕ, _≤_, _<_}
+use Prim.Native.Nat.{ℕ, _<_}
 use mathlib.Core.Path.{_≡_, refl, sym, ap, _∙_}
 use mathlib.Core.List.{List, [], _∷_}
 use native.Mathlib.Omega.{arith}
@@ -8,12 +8,9 @@ use lib.ListN.{length}
 use Rattle.machine.specs.Bytes.{zeros, xors}
 use Rattle.machine.specs.Draft.{draftAbsorb, draftEncrypt, draftDecrypt, draftDecryptState}
 use Rattle.machine.specs.Kinds.{keystream, streamXor}
-use Rattle.answers.specs.Answers.{limit}
 use Rattle.promises.specs.Cipher.{Cipher, Mac}
-use Rattle.promises.specs.Allowed.{Allowed}
 use Rattle.promises.specs.OneShot.{SealLeft, Left, onto, keyed, ciphertext, plaintext, sealTag, openTag, macTag, macState, streamXorOf}
 use Rattle.promises.specs.Met.{SealMet, OpenMet, StreamMet, StreamXorMet, MacMet}
-use Rattle.promises.specs.Calls.{SealCall}
 use Rattle.promises.specs.Demands.{Demand2}
 use Rattle.promises.proofs.SealAnswers.{seal-done, seal-zero}
 use Rattle.promises.proofs.OpenAnswers.{open-released, open-zero}

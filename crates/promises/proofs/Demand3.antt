@@ -2,7 +2,7 @@
 -- Assumes nothing.
 use Prim.Native.Nat.{ℕ, _≤_, zero-le}
 use mathlib.Core.Path.{_≡_, refl, sym, ap, subst, _∙_}
-use mathlib.Core.Logic.{_⊎_, inl, inr, _≢_, _↔_}
+use mathlib.Core.Logic.{_⊎_, inl, inr, _↔_}
 use mathlib.Core.List.{List, []}
 use native.Mathlib.Nat.{le-refl, le-of-eq}
 use native.Mathlib.Decide.{ℕ-discrete}
@@ -11,17 +11,15 @@ use Rattle.machine.specs.Bytes.{zeros, Bytes}
 use Rattle.answers.specs.Answers.{limit}
 use Rattle.promises.specs.Cipher.{Cipher, Mac}
 use Rattle.promises.specs.Allowed.{Allowed}
-use Rattle.promises.specs.OneShot.{SealLeft, Left, onto, ciphertext, sealTag, sealOf, openOf, macOf, macTag}
+use Rattle.promises.specs.OneShot.{SealLeft, Left, onto, ciphertext, sealTag, sealOf, openOf, macTag}
 use Rattle.promises.specs.Met.{OpenInPlaceMet, MacMet, MacCheckMet}
-use Rattle.promises.specs.Trace.{openPiece, sealFinish, openFinish, Calls, _▸_, taken, given, Going, SealSession, OpenSession}
+use Rattle.promises.specs.Trace.{taken, given}
 use Rattle.promises.specs.Calls.{SealCall, OpenCall}
 use Rattle.promises.specs.Demands.{Demand3, SealedAs, Sealed}
-use Rattle.promises.proofs.Allowed.{allowed-sizes}
 use Rattle.promises.proofs.Texts.{ciphertext-length, ciphertext-injective, sealTag-length}
 use Rattle.promises.proofs.Onto.{take-onto, onto-whole}
 use Rattle.promises.proofs.Forms.{SealedForm, one-form, one-message, form-length}
 use Rattle.promises.proofs.OneForm.{seal-answers, accepted-iff-sealed, refused-iff-not-sealed, opens-to}
-use Rattle.promises.proofs.OpenAnswers.{open-zero, open-refused}
 use Rattle.promises.proofs.Mac.{checked-iff-mac, refused-iff-not-mac}
 use Rattle.promises.proofs.MacAnswers.{MacSizes, mac-done}
 use Rattle.promises.proofs.ByteTexts.{Bytewise, ciphertext-bytes, sealTag-bytes, sealed-message-bytes}

@@ -7,7 +7,6 @@ use mathlib.Core.Bool.{Bool, true, false}
 use mathlib.Core.Logic.{_↔_}
 use mathlib.Core.List.{List, [], _∷_, _++_}
 use native.Mathlib.Omega.{arith}
-use lib.Dec.{eqb}
 use lib.ListN.{length}
 use Rattle.machine.specs.Machine.{Machine}
 use Rattle.answers.specs.Answers.{Rung, climb, FirstApplies}
@@ -19,7 +18,6 @@ use Rattle.promises.specs.Cipher.{Cipher, Mac}
 use Rattle.promises.specs.OneShot.{Left, onDone, verdict, openTag, macTag, openOf, macCheckOf}
 use Rattle.promises.specs.Session.{Session, Handed, Wrote, Opened, opening, live, sessionTag, sessionMac}
 use Rattle.promises.specs.Session as session
-use Rattle.promises.specs.Met.{OpenFinishMet}
 use Rattle.promises.specs.Trace.{askSealPiece, askSealPieceInPlace, askOpenPiece, askMacPiece}
 use Rattle.promises.specs.Trace.{askSealFinish, askOpenFinish, askMacFinish, askMacFinishCheck, askAbort}
 use Rattle.promises.specs.AnyCall.{AnyCall, askSeal, askSealInPlace, askOpen, askOpenInPlace, askStream, askStreamXor, askMac, askMacCheck}
@@ -116,7 +114,7 @@ module _ {S : Type 0} (C : Cipher S) (M : Mac S) where
   rungs-numbered (on s (askMacFinishCheck tag)) = refl
   rungs-numbered (on s (askAbort plain)) = refl
 
-  pub call-climbs : (c : AnyCall S) (a : ℕ) (l : Leaves c) → CallMet C M c a l → a ≡ climb (rungsOf C M c)
+  call-climbs : (c : AnyCall S) (a : ℕ) (l : Leaves c) → CallMet C M c a l → a ≡ climb (rungsOf C M c)
   call-climbs c a l m = ap (λ (o : ℕ × Leaves c). o .0) (the-promised C M c a l m) ∙ promised-climbs c
 
   pub first-applies : (c : AnyCall S) (a : ℕ) (l : Leaves c) → CallMet C M c a l → (k : ℕ) → (a ≡ k) ↔ FirstApplies (rungsOf C M c) k
@@ -124,11 +122,3 @@ module _ {S : Type 0} (C : Cipher S) (M : Mac S) where
       let e = call-climbs c a l m in
       let x = climb-exactly (rungsOf C M c) (rungs-numbered c) k in
       ((λ h. x .0 (sym e ∙ h)), λ f. e ∙ x .1 f)
-
-  -- read off, for one: an opening finish answers 7 exactly if the session is live, the buffer and the tag's size are its own, and the tag is not
-  -- the one that is due
-  pub open-finish-7 : (s : Session S) (tag plain : List ℕ) (a n : ℕ) (s′ : Session S) (plain′ : List ℕ) → OpenFinishMet C s tag plain a n s′ plain′
-      → (a ≡ 7)
-      ↔ ((live rate opening s ≡ true)
-      × ((eqb (length plain) (s .room) ≡ true) × ((eqb (length tag) (s .tagSize) ≡ true) × (same tag (sessionTag C s) ≡ false))))
-  open-finish-7 s tag plain a n s′ plain′ m = first-applies (on s (askOpenFinish tag plain)) a (n, s′, plain′) m 7

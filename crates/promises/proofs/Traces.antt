@@ -10,7 +10,7 @@ use native.Mathlib.Nat.{suc-ne-zero}
 use native.Mathlib.Omega.{arith}
 use lib.Dec.{eqb}
 use lib.ListN.{length}
-use borrow.Author.Tests.{eqb-true, eqb-false, eq-eqb}
+use borrow.Author.Tests.{eqb-true, eq-eqb}
 use Rattle.machine.specs.Machine.{Machine}
 use Rattle.answers.specs.Answers as answers
 use Rattle.answers.proofs.Answers.{open-piece-ok, open-finish-ok, abort-ok}
@@ -19,7 +19,7 @@ use Rattle.promises.specs.Cipher.{Cipher, Mac}
 use Rattle.promises.specs.OneShot.{onDone}
 use Rattle.promises.specs.Session.{sealing, opening, macing, Session, Handed, Wrote, Opened, live, abortLive, ifOpening, pick, ended}
 use Rattle.promises.specs.Session as session
-use Rattle.promises.specs.Run.{Call, World, Result, begun, accepted, took, left, wrote, handed, counted, step, hands, run, results}
+use Rattle.promises.specs.Run.{Call, World, Result, begun, took, left, wrote, handed, counted, step, hands, run, results}
 use Rattle.promises.specs.Run as call
 use Rattle.promises.specs.Trace.{Made, sealPiece, sealPieceInPlace, openPiece, macPiece, sealFinish, openFinish, macFinish, macFinishCheck, abort}
 use Rattle.promises.specs.Trace.{Calls, none, _▸_, _then_, counts, input, output, taken, given, Ended, Going, Lent, Keeps, OneBuffer, at-first, kept}
@@ -64,7 +64,7 @@ counted-none : (a : ℕ) (so-far : List ℕ) → onDone a (λ (b : ℕ). so-far)
 counted-none zero so-far = refl
 counted-none (suc a) so-far = sym (append-nil so-far)
 
-pub counts-refused : (a : ℕ) (xs : List ℕ) → a ≢ 0 → counts a xs ≡ []
+counts-refused : (a : ℕ) (xs : List ℕ) → a ≢ 0 → counts a xs ≡ []
 counts-refused zero xs n = absurd (n refl)
 counts-refused (suc a) xs n = refl
 
@@ -279,7 +279,7 @@ module _ {S : Type 0} (C : Cipher S) (M : Mac S) where
       (λ z. ladder.openFinish-not-7 (live rate opening s) (length buf) (s .room) (length tag) (s .tagSize) (e ∙ z)) h))
       (λ e h. let d = open-finish-ok e in (live-facts rate s opening (d .is-live) .kind-is, d .same-buffer))
 
-  pub abort-lent : (s : Session S) (buf : List ℕ) → s .mark ≡ opening → Ends (session.abort C s buf .answer) → length buf ≡ s .room
+  abort-lent : (s : Session S) (buf : List ℕ) → s .mark ≡ opening → Ends (session.abort C s buf .answer) → length buf ≡ s .room
   unfolding session.abort
   abort-lent s buf o =
       let t = ifOpening s (eqb (length buf) (s .room)) true in
@@ -461,26 +461,6 @@ module _ {S : Type 0} (C : Cipher S) (M : Mac S) where
   -- and of any other session, whatever buffers are lent
   pub trace-is-run-any : {s₀ s : Session S} {cs : Calls} (p : List ℕ) → s₀ .mark ≢ opening → Trace C M s₀ cs s → IsRun s₀ p cs s p
   trace-is-run-any p n t = walk-is-run (walk-any p n t)
-
-  -- ---- the last call of a trace
-
-  pub record Last (s₀ : Session S) (p₀ : List ℕ) (cs : Calls) (c : Made) (s′ : Session S) (p′ : List ℕ) : Type 0 where
-    pub session : Session S
-    pub plain : List ℕ
-    pub before : IsRun s₀ p₀ cs session plain
-    pub met : Met C M session c s′
-    pub steps-to : Steps (world session plain cs) c (world s′ p′ (cs ▸ c))
-
-  last : {s₀ s′ : Session S} {p₀ p′ : List ℕ} {cs : Calls} {c : Made} → Walk s₀ p₀ (cs ▸ c) s′ p′ → Last s₀ p₀ cs c s′ p′
-  last (walks {cs = cs} {s = s} {s′ = s′} {p = p} {p′ = p′} t c m f) =
-      record { session = s; plain = p; before = walk-is-run t; met = m; steps-to = steps cs s s′ p p′ c m f }
-
-  pub last-call : {s₀ s : Session S} {p₀ p : List ℕ} {cs : Calls} {c : Made} → (s₀ .mark ≡ opening → s₀ .room ≡ length p₀)
-      → Trace C M s₀ (cs ▸ c) s → OneBuffer p₀ (cs ▸ c) p → Last s₀ p₀ cs c s p
-  last-call r t b = last (walk-one r t b)
-
-  pub last-call-any : {s₀ s : Session S} {cs : Calls} {c : Made} (p : List ℕ) → s₀ .mark ≢ opening → Trace C M s₀ (cs ▸ c) s → Last s₀ p cs c s p
-  last-call-any p n t = last (walk-any p n t)
 
   -- calls on the session that others left are calls behind them
   pub trace-then : {s₀ s s′ : Session S} {cs ds : Calls} → Trace C M s₀ cs s → Trace C M s ds s′ → Trace C M s₀ (cs then ds) s′

@@ -43,7 +43,7 @@ module _ {S : Type 0} (C : Cipher S) where
       }) in
       sym (does _ 0 _ _ _ (sym goes) refl (λ i. record { answer = 0; session = ended C; out = pick (sym other i) (onto (zeros (s .written)) plain) plain }))
 
-  pub abort-opening : (s : Session S) → live rate opening s ≡ true → (plain : List ℕ) → length plain ≡ s .room → session.abort C s plain .answer ≡ 0
+  abort-opening : (s : Session S) → live rate opening s ≡ true → (plain : List ℕ) → length plain ≡ s .room → session.abort C s plain .answer ≡ 0
   unfolding session.abort
   abort-opening s l plain e =
       let f = live-facts rate s opening l in

@@ -2,23 +2,22 @@
 -- and every other byte of its buffer is as it was at the start, whatever was called before and is called later.
 -- Assumes nothing.
 use Prim.Native.Nat.{ℕ, _≤_, _<_}
-use mathlib.Core.Path.{_≡_, refl, sym, ap, subst, _∙_}
-use mathlib.Core.Logic.{inl, inr, _≢_}
+use mathlib.Core.Path.{_≡_, sym, ap, subst, _∙_}
+use mathlib.Core.Logic.{inl, inr}
 use mathlib.Core.List.{List, [], _∷_, _++_, append-nil}
-use lib.ListN.{length, drop, getD}
+use lib.ListN.{length, getD}
 use Rattle.machine.specs.Bytes.{zeros}
 use Rattle.promises.specs.Cipher.{Cipher, Mac}
 use Rattle.promises.specs.OneShot.{onto}
-use Rattle.promises.specs.Session.{Session, ended, openStart}
-use Rattle.promises.specs.Run.{Call, World, begun, step, hands, openRun}
-use Rattle.promises.specs.Run as call
+use Rattle.promises.specs.Session.{ended, openStart}
+use Rattle.promises.specs.Run.{World, begun, step, hands, openRun}
 use Rattle.promises.specs.Trace.{Made, openFinish, abort, Calls, none, _▸_, taken, Refused, OpenSession}
 use Rattle.promises.proofs.SessionCalls.{Ends}
 use Rattle.promises.proofs.Runs.{run-snoc, over-stays}
 use Rattle.promises.proofs.RunsErasing as erasing
 use Rattle.promises.proofs.RunsErasing.{Wiped}
-use Rattle.promises.proofs.Traces.{IsRun, Steps, as-run, passed, closed, steps-as-run, callOf, result, world, trace-before, buffer-before, trace-steps}
-use Rattle.promises.proofs.TracesOpening.{before, start, start-room, from-start, at-end, run-is}
+use Rattle.promises.proofs.Traces.{Steps, as-run, passed, closed, steps-as-run, callOf, result, world, trace-before, buffer-before, trace-steps}
+use Rattle.promises.proofs.TracesOpening.{before, start-room, from-start, at-end, run-is}
 
 module _ {S : Type 0} (C : Cipher S) (M : Mac S) (key nonce ad : List ℕ) (n : ℕ) (p₀ : List ℕ) where
   abbrev From : Calls → List ℕ → Type 0

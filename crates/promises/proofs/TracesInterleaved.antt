@@ -1,13 +1,13 @@
 -- Calls on several sessions may be interleaved: those on each one are a trace of it.
 -- Assumes nothing.
 use Prim.Native.Nat.{ℕ}
-use mathlib.Core.Path.{_≡_, refl, sym, subst, _∙_}
+use mathlib.Core.Path.{_≡_, refl, sym, subst}
 use mathlib.Core.Bool.{Bool, true, false}
 use lib.Dec.{eqb}
 use borrow.Author.Tests.{eqb-true}
 use Rattle.promises.specs.Cipher.{Cipher, Mac}
 use Rattle.promises.specs.Session.{Session, pick}
-use Rattle.promises.specs.Trace.{Made, Calls, _▸_, Met, Trace, at-start, made}
+use Rattle.promises.specs.Trace.{_▸_, Met, Trace, at-start, made}
 use Rattle.promises.specs.Interleaved.{Interleaving, callsOn, Interleaved, not-yet, one-more}
 
 module _ {S : Type 0} (C : Cipher S) (M : Mac S) where

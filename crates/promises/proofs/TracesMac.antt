@@ -1,11 +1,11 @@
 -- A session that was started for a MAC, by what can be seen of its calls: its finish gives the one-shot's tag of all that was taken, and its
 -- check answers as the one-shot's.
 -- Assumes nothing.
-use Prim.Native.Nat.{ℕ, suc, _+_, _≤_}
+use Prim.Native.Nat.{ℕ}
 use mathlib.Core.Path.{_≡_, refl, sym, ap, subst, _∙_}
 use mathlib.Core.Bool.{true}
 use mathlib.Core.Logic.{_⊎_, inl, inr, _≢_}
-use mathlib.Core.List.{List, [], _∷_, _++_}
+use mathlib.Core.List.{List, []}
 use native.Mathlib.Nat.{suc-ne-zero}
 use native.Mathlib.Omega.{arith}
 use lib.ListN.{length}
@@ -15,16 +15,15 @@ use Rattle.answers.proofs.Answers.{ok-mac-start}
 use Rattle.promises.specs.Cipher.{Cipher, Mac}
 use Rattle.promises.specs.Allowed.{Allowed}
 use Rattle.promises.specs.OneShot.{Left, macTag, macOf, macCheckOf}
-use Rattle.promises.specs.Session.{macing, opening, Session, Handed, Wrote, live, ended, macStart}
+use Rattle.promises.specs.Session.{macing, opening, Session, Handed, live, ended, macStart}
 use Rattle.promises.specs.Session as session
 use Rattle.promises.specs.Met.{MacMet, MacCheckMet}
-use Rattle.promises.specs.Run.{Call, World, Result, wrote, handed, hands, run, macRun}
+use Rattle.promises.specs.Run.{World, Result, wrote, hands, macRun}
 use Rattle.promises.specs.Run as call
-use Rattle.promises.specs.Trace.{Made, macPiece, macFinish, macFinishCheck, Calls, _▸_, taken, Going, Met, Trace, MacSession}
+use Rattle.promises.specs.Trace.{Made, macFinish, macFinishCheck, Calls, _▸_, taken, Going, Trace, MacSession}
 use Rattle.promises.proofs.SessionCalls.{onDone-cases}
 use Rattle.promises.proofs.RunsMac as mac
 use Rattle.promises.proofs.RunsMac.{MacLive, MacStands, mac-live-live, mac-run-stands}
-use Rattle.promises.proofs.Runs.{Accepts}
 use Rattle.promises.proofs.Traces.{IsRun, world, going-goes, trace-is-run-any, trace-before}
 
 module _ {S : Type 0} (C : Cipher S) (M : Mac S) (key nonce : List ℕ) (n : ℕ) where

@@ -2,40 +2,35 @@
 -- what was taken; a finish answers as the one-shot does on all that was taken, 0 exactly to a sealed form; after a wrong tag or an abort
 -- every byte that was written is 0, whatever is called later.
 -- Assumes nothing.
-use Prim.Native.Nat.{ℕ, suc, _+_, _≤_}
+use Prim.Native.Nat.{ℕ, _+_, _≤_}
 use mathlib.Core.Path.{_≡_, refl, sym, ap, subst, _∙_}
-use mathlib.Core.Bool.{true, true≢false}
-use mathlib.Core.Logic.{_⊎_, inl, inr, _≢_, _↔_}
-use mathlib.Core.List.{List, [], _∷_, _++_, append-nil}
+use mathlib.Core.Bool.{true}
+use mathlib.Core.Logic.{inl, inr, _↔_}
+use mathlib.Core.List.{List, _++_}
 use native.Mathlib.Nat.{suc-ne-zero}
 use native.Mathlib.Omega.{arith}
-use lib.ListN.{length, take, drop, getD}
-use Rattle.machine.specs.Bytes.{zeros}
+use lib.ListN.{length, take}
 use Rattle.machine.specs.Machine.{Machine}
 use Rattle.answers.specs.Answers as answers
-use Rattle.answers.proofs.Answers.{StartOk, start-ok, ok-start, open-finish-ok}
+use Rattle.answers.proofs.Answers.{ok-start}
 use Rattle.promises.specs.Cipher.{Cipher, Mac}
 use Rattle.promises.specs.OneShot.{Left, onto, ciphertext, plaintext, sealTag, openOf}
 use Rattle.promises.specs.Session.{opening, Session, Handed, Wrote, Opened, live, ended, openStart}
 use Rattle.promises.specs.Session as session
 use Rattle.promises.specs.Met.{OpenMet}
-use Rattle.promises.specs.Run.{Call, World, Result, begun, wrote, counted, step, hands, run, openRun}
+use Rattle.promises.specs.Run.{Call, World, Result, counted, hands, openRun}
 use Rattle.promises.specs.Run as call
-use Rattle.promises.specs.Trace.{Made, sealPiece, sealPieceInPlace, openPiece, macPiece, sealFinish, openFinish, macFinish, macFinishCheck, abort}
-use Rattle.promises.specs.Trace.{Calls, none, _▸_, counts, taken, given, Going, Lent, Met, Trace, OneBuffer, at-first, SealSession, OpenSession}
+use Rattle.promises.specs.Trace.{Made, openPiece, openFinish}
+use Rattle.promises.specs.Trace.{Calls, _▸_, counts, taken, Going, Lent, Met, Trace, OpenSession}
 use Rattle.promises.specs.Allowed.{Allowed}
 use Rattle.promises.proofs.Texts.{plaintext-length, ciphertext-length, sealTag-length}
 use Rattle.promises.proofs.Onto.{take-onto}
 use Rattle.promises.proofs.Forms.{SealedForm}
-use Rattle.promises.proofs.SessionLive.{ended-not-live, live-facts}
 use Rattle.promises.proofs.SessionCalls.{onDone-cases, Ends}
-use Rattle.promises.proofs.SessionAt.{sessionAt}
-use Rattle.promises.proofs.Runs.{run-snoc, over-stays, Accepts}
 use Rattle.promises.proofs.RunsOpening.{OpenLive, OpenStands, going, released, erased-all, open-live-live, open-run-stands, open-run-piece}
 use Rattle.promises.proofs.RunsVerdict as verdict
-use Rattle.promises.proofs.RunsErasing as erasing
-use Rattle.promises.proofs.Traces.{IsRun, Last, Steps, as-run, passed, closed, steps-as-run, callOf, world, goes, going-goes, opener}
-use Rattle.promises.proofs.Traces.{openPiece-lent, openFinish-lent, trace-is-run, last-call, trace-before, buffer-before}
+use Rattle.promises.proofs.Traces.{IsRun, world, goes, going-goes, opener}
+use Rattle.promises.proofs.Traces.{openPiece-lent, openFinish-lent, trace-is-run, trace-before, buffer-before}
 
 module _ {S : Type 0} (C : Cipher S) (M : Mac S) (key nonce ad : List ℕ) (n : ℕ) (p₀ : List ℕ) where
   open Cipher C using (size, machine)
@@ -82,9 +77,6 @@ module _ {S : Type 0} (C : Cipher S) (M : Mac S) (key nonce ad : List ℕ) (n : 
 
   pub at-end : {cs : Calls} {p : List ℕ} (t : From cs p) → IsRun C M (start .session) p₀ cs (t .last) p
   at-end t = trace-is-run C M start-room (from-start t) (t .buffer)
-
-  at-last : {cs : Calls} {c : Made} {p : List ℕ} (t : From (cs ▸ c) p) → Last C M (start .session) p₀ cs c (t .last) p
-  at-last t = last-call C M start-room (from-start t) (t .buffer)
 
   pub run-is : {cs : Calls} {s : Session S} {p : List ℕ} (i : IsRun C M (start .session) p₀ cs s p) → openRun C M key nonce ad n p₀ (i .run-of) ≡ world C M s p cs
   unfolding openRun

@@ -1,20 +1,20 @@
 -- An opening that was started with another room than its buffer's length: each call that takes the buffer answers 10, each other call 8, and
 -- nothing is ever changed.
 -- Assumes nothing.
-use Prim.Native.Nat.{ℕ, suc}
+use Prim.Native.Nat.{ℕ}
 use mathlib.Core.Path.{_≡_, refl, sym, ap, subst, _∙_}
 use mathlib.Core.Bool.{Bool, true, false}
 use mathlib.Core.Logic.{inl, inr, _≢_}
 use mathlib.Core.List.{List}
 use native.Mathlib.Omega.{arith}
-use lib.Dec.{eqb, lit≤}
+use lib.Dec.{lit≤}
 use lib.ListN.{length, length-replicate}
 use borrow.Author.Tests.{eq-eqb, ne-eqb}
 use Rattle.machine.specs.Bytes.{zeros}
 use Rattle.machine.specs.Machine.{Machine}
 use Rattle.answers.specs.Answers as answers
 use Rattle.promises.specs.Cipher.{Cipher, Mac}
-use Rattle.promises.specs.Session.{sealing, opening, macing, pick, ifOpening, live, abortLive, Session, Handed, Wrote, Opened}
+use Rattle.promises.specs.Session.{sealing, opening, macing, live, abortLive, Session, Handed, Wrote, Opened}
 use Rattle.promises.specs.Session as session
 use Rattle.promises.specs.Met.{OpenStartMet}
 use Rattle.promises.specs.Trace.{Made, sealPiece, sealPieceInPlace, openPiece, macPiece, sealFinish, openFinish, macFinish, macFinishCheck, abort}

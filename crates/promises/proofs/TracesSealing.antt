@@ -1,35 +1,31 @@
 -- A session that was started to seal, by what can be seen of its calls: at any time what was given is the definition's ciphertext of what was
 -- taken; it goes on until a finish or an abort ends it; and its finish gives the one-shot's tag of all that was taken.
 -- Assumes nothing.
-use Prim.Native.Nat.{ℕ, suc, _+_, _≤_}
+use Prim.Native.Nat.{ℕ, _+_, _≤_}
 use mathlib.Core.Path.{_≡_, refl, sym, ap, subst, _∙_}
 use mathlib.Core.Bool.{true, true≢false}
 use mathlib.Core.Logic.{_⊎_, inl, inr, _≢_}
-use mathlib.Core.List.{List, [], _∷_, _++_}
+use mathlib.Core.List.{List, []}
 use native.Mathlib.Nat.{suc-ne-zero}
 use native.Mathlib.Omega.{arith}
-use lib.ListN.{length, take}
+use lib.ListN.{length}
 use Rattle.machine.specs.Machine.{Machine}
 use Rattle.answers.specs.Answers as answers
 use Rattle.answers.proofs.Answers.{StartOk, start-ok, ok-start, finish-ok}
 use Rattle.promises.specs.Cipher.{Cipher, Mac}
-use Rattle.promises.specs.OneShot.{SealLeft, ciphertext, sealTag}
+use Rattle.promises.specs.OneShot.{ciphertext, sealTag}
 use Rattle.promises.specs.Session.{sealing, opening, Session, Handed, Wrote, live, ended, sealStart}
 use Rattle.promises.specs.Session as session
-use Rattle.promises.specs.Met.{SealMet}
-use Rattle.promises.specs.Run.{Call, World, Result, begun, wrote, hands, run, sealRun}
+use Rattle.promises.specs.Run.{World, Result, wrote, hands, sealRun}
 use Rattle.promises.specs.Run as call
 use Rattle.promises.specs.Trace.{Made, sealPiece, sealPieceInPlace, sealFinish, Calls, _▸_, taken, given, Going, Met, Trace, SealSession}
 use Rattle.promises.specs.Allowed.{Allowed}
-use Rattle.promises.proofs.Texts.{ciphertext-length, ciphertext-injective, sealTag-length}
-use Rattle.promises.proofs.Onto.{take-onto}
+use Rattle.promises.proofs.Texts.{ciphertext-injective, sealTag-length}
 use Rattle.promises.proofs.Forms.{SealedForm}
-use Rattle.promises.proofs.OneForm.{seal-answers}
 use Rattle.promises.proofs.SessionLive.{ended-not-live}
 use Rattle.promises.proofs.SessionCalls.{onDone-cases}
 use Rattle.promises.proofs.SessionAt.{sessionAt}
 use Rattle.promises.proofs.RunsSealing.{SealLive, SealStands, seal-live-live, seal-run-stands, seal-run-piece, seal-run-piece-in-place, seal-run-finish}
-use Rattle.promises.proofs.Runs.{Accepts}
 use Rattle.promises.proofs.Traces.{IsRun, world, going-goes, trace-is-run-any, trace-before}
 
 module _ {S : Type 0} (C : Cipher S) (M : Mac S) (key nonce ad : List ℕ) (n : ℕ) where
@@ -72,7 +68,7 @@ module _ {S : Type 0} (C : Cipher S) (M : Mac S) (key nonce ad : List ℕ) (n : 
   at-end {cs} t =
       trace-is-run-any C M [] start-mark (subst (λ (s : Session S). Trace C M s cs (t .last)) (first-is t) (t .trace))
 
-  pub seal-session-stands : {cs : Calls} (t : From cs) → SealStands C M key nonce ad n (world C M (t .last) [] cs)
+  seal-session-stands : {cs : Calls} (t : From cs) → SealStands C M key nonce ad n (world C M (t .last) [] cs)
   unfolding sealRun
   seal-session-stands {cs} t =
       subst (SealStands C M key nonce ad n) (at-end t .stands) (seal-run-stands C M key nonce ad n [] (at-end t .run-of))
@@ -109,9 +105,6 @@ module _ {S : Type 0} (C : Cipher S) (M : Mac S) (key nonce ad : List ℕ) (n : 
 
     pub seal-session-live : live rate sealing (t .last) ≡ true
     seal-session-live = seal-live-live C M key nonce ad n (world C M (t .last) [] cs) still-live
-
-    pub seal-session-within : length (taken cs) ≤ answers.limit
-    seal-session-within = still-live .within
 
   abbrev pub before : {cs : Calls} {c : Made} (t : From (cs ▸ c)) → From cs
   before t = let b = trace-before C M (t .trace) in
@@ -186,27 +179,6 @@ module _ {S : Type 0} (C : Cipher S) (M : Mac S) (key nonce ad : List ℕ) (n : 
             text = seal-session-given (before t);
             tagged = tag-is ∙ ap (sealTag C key nonce ad (taken cs)) (sym long);
           },
-        )
-
-    -- and the one-shot, on all that was taken, with room for it and a tag buffer of that size, writes the same
-    pub seal-session-one-shot : a ≡ 0 → (out tagBuf : List ℕ) (r : ℕ) (out′ tagBuf′ : List ℕ) → SealMet C key nonce ad (taken cs) out tagBuf r out′ tagBuf′
-        → length tagBuf ≡ n → length (taken cs) ≤ length out
-        → (r ≡ 0) × (take (length (taken cs)) out′ ≡ given cs) × (tagBuf′ ≡ tag′)
-    seal-session-one-shot z out tagBuf r out′ tagBuf′ m e room =
-        let l = lives (before t) (was-live z .0) in
-        let f = seal-session-form z .1 in
-        let allowed : Allowed C key nonce ad (length tagBuf) = rw e (record {
-          key-size = l .sizes .key-size;
-          nonce-size = l .sizes .nonce-size;
-          ad-fits = l .sizes .ad-fits;
-          tag-size = l .sizes .tag-size;
-        }) in
-        let k = m ∙ seal-answers C key nonce ad (taken cs) out tagBuf allowed (l .within) room in (
-          ap (λ (x : SealLeft). x .answer) k,
-          ap (λ (x : SealLeft). take (length (taken cs)) (x .out)) k
-              ∙ take-onto (ciphertext C key nonce ad (taken cs)) out (length (taken cs)) (ciphertext-length C key nonce ad (taken cs))
-              ∙ sym (f .text),
-          ap (λ (x : SealLeft). x .tag) k ∙ ap (sealTag C key nonce ad (taken cs)) (e ∙ sym (seal-session-form z .0)) ∙ sym (f .tagged),
         )
 
   -- ---- two sessions

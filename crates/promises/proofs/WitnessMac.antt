@@ -67,16 +67,16 @@ module _ {S : Type 0} (C : Cipher S) (M : Mac S) (key nonce : List ℕ) (n : ℕ
         let e = macs.still-live C M key nonce n t (starts t) going .session-is in
         (ap (λ (s : Session S). s .msgLength) e, ap (λ (s : Session S). s .tagSize) e)
 
-    pub takes-more : (data′ : List ℕ) → length (taken cs) + length data′ ≤ limit → Macing (cs ▸ macPiece data′ 0)
+    takes-more : (data′ : List ℕ) → length (taken cs) + length data′ ≤ limit → Macing (cs ▸ macPiece data′ 0)
     takes-more data′ fits =
         let r = session.macPiece C (t .last) data′ in
         subst (λ (a : ℕ). Macing (cs ▸ macPiece data′ a)) (takes (t .last) is-live data′ (rw (counts .0) fits))
         (next t (macPiece data′ (r .answer)) (r .session) refl)
 
-    pub refuses-size : (tag : List ℕ) → length tag ≢ n → Macing (cs ▸ macFinish tag 1 tag)
+    refuses-size : (tag : List ℕ) → length tag ≢ n → Macing (cs ▸ macFinish tag 1 tag)
     refuses-size tag d = next t (macFinish tag 1 tag) (t .last) (refuses-1 (t .last) is-live tag (λ e. d (e ∙ counts .1)))
 
-    pub macs-all : (data′ : List ℕ) → taken cs ≡ data′ → Macing (cs ▸ macFinish (zeros n) 0 (macTag C M key nonce data′ n))
+    macs-all : (data′ : List ℕ) → taken cs ≡ data′ → Macing (cs ▸ macFinish (zeros n) 0 (macTag C M key nonce data′ n))
     macs-all data′ e =
         let r = session.macFinish C M (t .last) (zeros n) in
         let u = next t (macFinish (zeros n) (r .answer) (r .out)) (r .session) refl in
@@ -84,13 +84,13 @@ module _ {S : Type 0} (C : Cipher S) (M : Mac S) (key nonce : List ℕ) (n : ℕ
         subst (λ (a : ℕ). Macing (cs ▸ macFinish (zeros n) a (macTag C M key nonce data′ n))) (z .0)
         (subst (λ (tag : List ℕ). Macing (cs ▸ macFinish (zeros n) (r .answer) tag)) (z .1 ∙ ap (λ (xs : List ℕ). macTag C M key nonce xs n) e) u)
 
-    pub checks-all : (tag : List ℕ) → length tag ≡ n → (a : ℕ) → MacCheckMet C M key nonce (taken cs) tag a → Macing (cs ▸ macFinishCheck tag a)
+    checks-all : (tag : List ℕ) → length tag ≡ n → (a : ℕ) → MacCheckMet C M key nonce (taken cs) tag a → Macing (cs ▸ macFinishCheck tag a)
     checks-all tag e a m =
         let r = session.macFinishCheck C M (t .last) tag in
         let u = next t (macFinishCheck tag (r .answer)) (r .session) refl in
         subst (λ (b : ℕ). Macing (cs ▸ macFinishCheck tag b)) (macs.mac-session-checks C M key nonce n tag (r .answer) u (starts u) going e a m) u
 
-    pub aborts : (buf : List ℕ) → Macing (cs ▸ abort buf 0 buf)
+    aborts : (buf : List ℕ) → Macing (cs ▸ abort buf 0 buf)
     aborts buf = next t (abort buf 0 buf) (ended C) (sym (abort-leaves C (t .last) macing (lit≤ tt) (λ e. omega arith) is-live buf))
 
   -- ---- data in two pieces, and in between a finish with another tag size, which is refused with 1

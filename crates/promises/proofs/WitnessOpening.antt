@@ -73,12 +73,12 @@ module _ {S : Type 0} (C : Cipher S) (M : Mac S) (key nonce ad : List ℕ) (n : 
     holds : openings.Holds C M key nonce ad n p₀ (taken cs) p
     holds = openings.open-session-holds C M key nonce ad n p₀ t (starts t) going
 
-    pub same-length : length p ≡ length p₀
+    same-length : length p ≡ length p₀
     same-length =
         ap length (holds .buffer-is)
         ∙ length-onto (plaintext C key nonce ad (taken cs)) p₀ (rw (plaintext-length C key nonce ad (taken cs)) (holds .in-room))
 
-    pub opens-more : (ct : List ℕ) → length (taken cs) + length ct ≤ length p₀ → length (taken cs) + length ct ≤ limit
+    opens-more : (ct : List ℕ) → length (taken cs) + length ct ≤ length p₀ → length (taken cs) + length ct ≤ limit
         → (p′ : List ℕ) × Opening (cs ▸ openPiece ct p 0 p′) p′
     opens-more ct room fits =
         let r = session.openPiece C (t .last) ct p in
@@ -90,11 +90,11 @@ module _ {S : Type 0} (C : Cipher S) (M : Mac S) (key nonce ad : List ℕ) (n : 
       is-live : (live (C .machine .rate) opening (t .last) ≡ true) × (t .last .room ≡ length p₀)
       is-live = openings.open-session-live C M key nonce ad n p₀ t (starts t) going
 
-      pub refuses-buffer : (ct : List ℕ) → Opening (cs ▸ openPiece ct b 10 b) p
+      refuses-buffer : (ct : List ℕ) → Opening (cs ▸ openPiece ct b 10 b) p
       refuses-buffer ct =
           next t (openPiece ct b 10 b) (t .last) p (refuses-10 (t .last) (is-live .0) ct b (λ e. d (e ∙ is-live .1))) (inr (d, refl))
 
-      pub refuses-buffer-at-end : (tag : List ℕ) → Opening (cs ▸ openFinish tag b 10 0 b) p
+      refuses-buffer-at-end : (tag : List ℕ) → Opening (cs ▸ openFinish tag b 10 0 b) p
       refuses-buffer-at-end tag =
           next t (openFinish tag b 10 0 b) (t .last) p (refuses-10-at-end (t .last) (is-live .0) tag b (λ e. d (e ∙ is-live .1))) (inr (d, refl))
 
@@ -106,12 +106,12 @@ module _ {S : Type 0} (C : Cipher S) (M : Mac S) (key nonce ad : List ℕ) (n : 
       long : length due ≡ n
       long = sealTag-length C key nonce ad msg n (fixed .tag-size)
 
-      pub holds-text : p ≡ onto msg p₀
+      holds-text : p ≡ onto msg p₀
       holds-text =
           holds .buffer-is ∙ ap (λ (xs : List ℕ). onto (plaintext C key nonce ad xs) p₀) text
           ∙ ap (λ (xs : List ℕ). onto xs p₀) (plaintext-ciphertext C key nonce ad msg)
 
-      pub releases : (k : ℕ) × (p′ : List ℕ) × Opening (cs ▸ openFinish due p 0 k p′) p′
+      releases : (k : ℕ) × (p′ : List ℕ) × Opening (cs ▸ openFinish due p 0 k p′) p′
       releases =
           let r = session.openFinish C (t .last) due p in
           let u = next t (openFinish due p (r .answer) (r .count) (r .out)) (r .session) (r .out) refl (inl (refl, refl)) in
@@ -120,7 +120,7 @@ module _ {S : Type 0} (C : Cipher S) (M : Mac S) (key nonce ad : List ℕ) (n : 
           (msg, long, record { within = within; text = text; tagged = ap (sealTag C key nonce ad msg) (sym long) }) in
           (r .count, r .out, subst (λ (a : ℕ). Opening (cs ▸ openFinish due p a (r .count) (r .out)) (r .out)) z u)
 
-      pub refuses-tag : (tag : List ℕ) → length tag ≡ n → tag ≢ due → (k : ℕ) × (p′ : List ℕ) × Opening (cs ▸ openFinish tag p 7 k p′) p′
+      refuses-tag : (tag : List ℕ) → length tag ≡ n → tag ≢ due → (k : ℕ) × (p′ : List ℕ) × Opening (cs ▸ openFinish tag p 7 k p′) p′
       refuses-tag tag size d =
           let r = session.openFinish C (t .last) tag p in
           let u = next t (openFinish tag p (r .answer) (r .count) (r .out)) (r .session) (r .out) refl (inl (refl, refl)) in
@@ -131,7 +131,7 @@ module _ {S : Type 0} (C : Cipher S) (M : Mac S) (key nonce ad : List ℕ) (n : 
           (sym (open-erased C key nonce ad (taken cs) tag p₀ sizes (λ e. d (e ∙ is-due)))) (holds .in-room) in
           (r .count, r .out, subst (λ (a : ℕ). Opening (cs ▸ openFinish tag p a (r .count) (r .out)) (r .out)) z u)
 
-    pub aborts : (p′ : List ℕ) × Opening (cs ▸ abort p 0 p′) p′
+    aborts : (p′ : List ℕ) × Opening (cs ▸ abort p 0 p′) p′
     aborts =
         let r = session.abort C (t .last) p in
         let u = next t (abort p (r .answer) (r .out)) (r .session) (r .out) refl (inl (refl, refl)) in

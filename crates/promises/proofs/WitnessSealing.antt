@@ -51,7 +51,7 @@ module _ {S : Type 0} (C : Cipher S) (M : Mac S) (key nonce ad : List ℕ) (n : 
     is-live : live (C .machine .rate) sealing (t .last) ≡ true
     is-live = sealings.seal-session-live C M key nonce ad n t (starts t) going
 
-    pub seals-more : (msg out : List ℕ) → length msg ≡ length out → length (taken cs) + length msg ≤ limit
+    seals-more : (msg out : List ℕ) → length msg ≡ length out → length (taken cs) + length msg ≤ limit
         → (out′ : List ℕ) × Sealing (cs ▸ sealPiece msg out 0 out′)
     seals-more msg out e fits =
         let r = session.sealPiece C (t .last) msg out in
@@ -59,17 +59,17 @@ module _ {S : Type 0} (C : Cipher S) (M : Mac S) (key nonce ad : List ℕ) (n : 
         let z = sealings.seal-session-piece C M key nonce ad n msg out (r .answer) (r .out) u (starts u) going fits e in
         (r .out, subst (λ (a : ℕ). Sealing (cs ▸ sealPiece msg out a (r .out))) z u)
 
-    pub seals-more-in-place : (buf : List ℕ) → length (taken cs) + length buf ≤ limit → (buf′ : List ℕ) × Sealing (cs ▸ sealPieceInPlace buf 0 buf′)
+    seals-more-in-place : (buf : List ℕ) → length (taken cs) + length buf ≤ limit → (buf′ : List ℕ) × Sealing (cs ▸ sealPieceInPlace buf 0 buf′)
     seals-more-in-place buf fits =
         let r = session.sealPieceInPlace C (t .last) buf in
         let u = next t (sealPieceInPlace buf (r .answer) (r .out)) (r .session) refl in
         let z = sealings.seal-session-piece-in-place C M key nonce ad n buf (r .answer) (r .out) u (starts u) going fits in
         (r .out, subst (λ (a : ℕ). Sealing (cs ▸ sealPieceInPlace buf a (r .out))) z u)
 
-    pub refuses-piece : (msg out : List ℕ) → length msg ≢ length out → Sealing (cs ▸ sealPiece msg out 9 out)
+    refuses-piece : (msg out : List ℕ) → length msg ≢ length out → Sealing (cs ▸ sealPiece msg out 9 out)
     refuses-piece msg out d = next t (sealPiece msg out 9 out) (t .last) (refuses-9 (t .last) is-live msg out d)
 
-    pub seals-all : (msg : List ℕ) → taken cs ≡ msg → Sealing (cs ▸ sealFinish (zeros n) 0 (sealTag C key nonce ad msg n))
+    seals-all : (msg : List ℕ) → taken cs ≡ msg → Sealing (cs ▸ sealFinish (zeros n) 0 (sealTag C key nonce ad msg n))
     seals-all msg e =
         let r = session.sealFinish C (t .last) (zeros n) in
         let u = next t (sealFinish (zeros n) (r .answer) (r .out)) (r .session) refl in
@@ -77,7 +77,7 @@ module _ {S : Type 0} (C : Cipher S) (M : Mac S) (key nonce ad : List ℕ) (n : 
         subst (λ (a : ℕ). Sealing (cs ▸ sealFinish (zeros n) a (sealTag C key nonce ad msg n))) (z .0)
         (subst (λ (tag : List ℕ). Sealing (cs ▸ sealFinish (zeros n) (r .answer) tag)) (z .1 ∙ ap (λ (xs : List ℕ). sealTag C key nonce ad xs n) e) u)
 
-    pub aborts : (buf : List ℕ) → Sealing (cs ▸ abort buf 0 buf)
+    aborts : (buf : List ℕ) → Sealing (cs ▸ abort buf 0 buf)
     aborts buf = next t (abort buf 0 buf) (ended C) (sym (abort-leaves C (t .last) sealing (lit≤ tt) (λ e. omega arith) is-live buf))
 
   -- ---- a message in one piece

@@ -145,7 +145,7 @@ Over none = ⊥
 Over (cs ▸ c) = Over cs ⊎ Ended c
 
 -- a call that ends an opening and does not release it: a finish that answers 7, an abort
-abbrev pub Erases : Made → Type 0
+abbrev Erases : Made → Type 0
 Erases (sealPiece msg out a out′) = ⊥
 Erases (sealPieceInPlace buf a buf′) = ⊥
 Erases (openPiece ct plain a plain′) = ⊥

@@ -52,7 +52,7 @@ pub record Fits (r : Layout) (n : ℕ) : Type 0 where
   pub tag-short : r .end ≤ r .tag + 32
 
 -- the bytes from place a up to place e
-abbrev pub between : ℕ → ℕ → List ℕ → List ℕ
+abbrev between : ℕ → ℕ → List ℕ → List ℕ
 between a e l = take (e - a) (drop a l)
 
 abbrev pub keyIn : List ℕ → List ℕ

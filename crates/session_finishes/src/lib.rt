@@ -2,9 +2,7 @@
 ghost use mathlib.Core.Path.{_≡_};
 ghost use mathlib.Core.Bool.{true};
 ghost use lib.Dec.{eqb};
-ghost use Prim.Native.Nat.{_≤_};
 ghost use lib.ListN.{length};
-ghost use Rattle.answers.specs.Answers.{limit, tagSize};
 ghost use Rattle.lent.specs.Lent.{same, wiped};
 ghost use Rattle.promises.specs.Session as promise;
 ghost use Rattle.aegis128l.specs.Cipher.{aegis128l, aegis128lMac};

@@ -19,7 +19,7 @@ use Rattle.session.proofs.Finish.Laws as F′
 use Rattle.session.proofs.Opened as O
 use Rattle.session.proofs.Opened.Laws as O′
 
-abbrev pub session : Lendable
+abbrev session : Lendable
 session = record { type = T.the-type; laws = T′.the-laws; plain = T′.the-plain }
 
 abbrev pub piece : Handing

@@ -1,13 +1,12 @@
 -- What one record more adds to a tally, and that no count grows faster than the place in the list.
 -- Assumes nothing.
 use Prim.Native.Nat.{ℕ, _+_, _*_, _≤_, _<_}
-use mathlib.Core.Path.{_≡_, refl}
+use mathlib.Core.Path.{_≡_}
 use mathlib.Core.Bool.{Bool, true, false, cond}
-use native.Mathlib.Nat.{le-refl, le-add-right}
 use native.Mathlib.Omega.{arith}
 use lib.Dec.{eqb}
 use Rattle.vectors.specs.declared.replay.Tally.{Tally}
-use Rattle.vectors.specs.Walk.{one, more, counted, none, Small}
+use Rattle.vectors.specs.Walk.{counted, none, Small}
 
 -- ---- by the kind
 

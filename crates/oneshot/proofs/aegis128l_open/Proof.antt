@@ -1,6 +1,5 @@
 -- `aegis128l_open` meets its contract: a refusal changes nothing; else the ciphertext is laid over the output and opened there, and wiped if the tag differs.
 -- Assumes nothing.
-use Prim.Native.Nat.{_-_}
 use mathlib.Core.Path.{sym, _∙_}
 use native.Mathlib.Omega.{arith}
 use borrow.Author.Needs.{needs}

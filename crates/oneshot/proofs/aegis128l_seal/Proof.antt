@@ -1,6 +1,5 @@
 -- `aegis128l_seal` meets its contract: a refusal changes nothing; else the message is laid over the output and sealed there.
 -- Assumes nothing.
-use Prim.Native.Nat.{_-_}
 use mathlib.Core.Path.{sym, _∙_}
 use native.Mathlib.Omega.{arith}
 use borrow.Author.Needs.{needs}

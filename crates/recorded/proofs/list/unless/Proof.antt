@@ -1,6 +1,5 @@
 -- `unless` meets its contract.
 -- Assumes nothing.
-use mathlib.Core.Path.{refl}
 use native.Mathlib.Omega.{arith}
 use borrow.Author.Tests.{eq-eqb, ne-eqb}
 use Rattle.recorded.proofs.list.unless.Statement.{statement}

@@ -1,8 +1,6 @@
 -- `mac_refuses` meets its contract: the check of the damaged tag answers 7.
 -- Assumes nothing.
-use Prim.Native.Nat.{ℕ}
 use mathlib.Core.Path.{sym, ap, _∙_}
-use mathlib.Core.List.{List}
 use borrow.Author.Needs.{needs}
 use borrow.Author.Tests.{eqb-true, not-false}
 use Rattle.promises.specs.OneShot.{macCheckOf}
