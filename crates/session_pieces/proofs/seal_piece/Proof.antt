@@ -7,25 +7,31 @@ use Rattle.session_pieces.proofs.seal_piece.Statement.{statement}
 use Rattle.session_pieces.proofs.seal_piece.Tie as tie
 
 returns : tie.Need-returns
-returns c = seal-refused aegis128l _ _ _ _ _ (c .before .before .live .ensures) (c .before .seal-piece .ensures) (c .if1 .taken)
+returns c =
+    let earlier = c .before .before in
+    seal-refused aegis128l _ _ _ _ _ _ (earlier .before .before .live .ensures) (earlier .before .seal-piece .ensures) (earlier .counted .ensures) (c .if1 .taken)
 
 transformed-into-requires : tie.Need-transformed-into-requires
 transformed-into-requires c κs =
     let tested = c .before in
-    let g = tested .before .before .before .before .before .args in
-    seal-asks aegis128l _ (g .msg .now) (g .out .now) _ _ (tested .before .before .live .ensures) (tested .before .seal-piece .ensures)
-    (tested .if1 .left)
+    let earlier = tested .before .before in
+    let g = earlier .before .before .before .before .before .args in
+    seal-asks aegis128l _ (g .msg .now) (g .out .now) _ _ _ (earlier .before .before .live .ensures) (earlier .before .seal-piece .ensures)
+    (earlier .counted .ensures) (tested .if1 .left)
 
 returns-2 : tie.Need-returns-2
 returns-2 c =
     let tested = c .before .before .before .before in
+    let earlier = tested .before .before in
     let t = c .before .before .transformed-into .ensures in
-    seal-done aegis128l _ _ _ _ _ (tested .before .before .live .ensures) (tested .before .seal-piece .ensures) (tested .if1 .left) _ _ (t .0) (t .1)
+    seal-done aegis128l _ _ _ _ _ _ (earlier .before .before .live .ensures) (earlier .before .seal-piece .ensures) (earlier .counted .ensures)
+    (tested .if1 .left) _ _ (t .0) (t .1)
 
 pub seal-piece-spec : {M : Type 1} → statement M
 seal-piece-spec =
     tie.close
     (tie.spec
+    (λ c κs. search needs)
     (λ c κs. search needs)
     (λ c κs. search needs)
     returns

@@ -12,7 +12,7 @@ returns c =
     let a = earlier .before .before .before .before .before .before .before .before .args in
     of-copy (fedWith (a .decrypt) (sessionOf (a .s))) (outWith (a .decrypt) (sessionOf (a .s))) _ _ _ _ _
     (earlier .before .before .before .before .put .ensures)
-    (earlier .before .before .before .before .before .before .before .before .pre .1 .1) (earlier .transformed .ensures)
+    (earlier .before .before .before .before .before .before .before .before .pre .1) (earlier .transformed .ensures)
 
 pub transformed-into-spec : {M : Type 1} → statement M
 transformed-into-spec =
