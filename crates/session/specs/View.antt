@@ -9,7 +9,6 @@ use Rattle.aegis128l.specs.Aegis128L.{Blocks, machine}
 use Rattle.aegis128l.specs.View.{blocksOf, modeOf}
 use Rattle.session.specs.declared.Session.{Session}
 use Rattle.session.specs.declared.Piece.{Piece}
-use Rattle.session.specs.declared.Finish.{Finish}
 
 abbrev pub sessionOf : Session → promise.Session Blocks
 sessionOf s = record {
@@ -63,14 +62,3 @@ outWith decrypt s xs = out machine (modeOf decrypt) (promise.core s) xs
 -- what is handed back beside no buffer
 abbrev pub handedOf : Piece → promise.Handed Blocks
 handedOf r = record { answer = r .answer; session = sessionOf (r .session) }
-
-abbrev pub wroteOf : Piece → List ℕ → promise.Wrote Blocks
-wroteOf r out = record { answer = r .answer; session = sessionOf (r .session); out = out }
-
-abbrev pub openedOf : Finish → List ℕ → promise.Opened Blocks
-openedOf r out = record {
-  answer = r .opened .answer;
-  count = r .opened .count;
-  session = sessionOf (r .session);
-  out = out;
-}
