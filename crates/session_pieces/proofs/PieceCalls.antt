@@ -3,10 +3,10 @@
 -- Assumes nothing.
 use Prim.Native.Nat.{ℕ, _+_, _-_, _<_, _≤_}
 use native.Mathlib.Omega.{arith}
-use mathlib.Core.Path.{_≡_, sym, ap, subst, _∙_}
+use mathlib.Core.Path.{_≡_, refl, sym, ap, subst, _∙_}
 use mathlib.Core.Bool.{Bool, true}
-use mathlib.Core.List.{List, _++_}
-use lib.ListN.{length, take, drop, length-drop}
+use mathlib.Core.List.{List, _++_, append-nil}
+use lib.ListN.{length, take, drop, length-drop, drop-of-length-le}
 use lib.Seq.{length-take-le}
 use borrow.Rule.Slice.PartMut.{putMid}
 use Rattle.machine.specs.Machine.{Machine, Core, Mode, enc, dec, after, out}
@@ -37,10 +37,30 @@ module _ {S : Type 0} (M : Machine S) (m : Mode) (s t : Session S) (k c : Core S
   pub changed : (ys : List ℕ) → ys ≡ out M m k xs → (t ≡ withCore s (after M m (core s) xs)) × (ys ≡ out M m (core s) xs)
   changed ys e = (taken, e ∙ ap (λ (x : Core S). out M m x xs) of-s)
 
--- what holds of bytes that were put over as many others holds of the bytes
-pub of-copy : {T U : Type 0} (F : List ℕ → T) (G : List ℕ → U) (xs ys zs : List ℕ) (t : T) (u : U)
-    → zs ≡ over xs ys → length xs ≡ length ys → (t ≡ F zs) × (u ≡ G zs) → (t ≡ F xs) × (u ≡ G xs)
-of-copy F G xs ys zs t u e n p = let z : zs ≡ xs = e ∙ over-same xs ys n in (p .0 ∙ ap F z, p .1 ∙ ap G z)
+-- and of bytes that were laid over others
+pub of-copy : {T U : Type 0} (F : List ℕ → T) (G : List ℕ → U) (xs zs : List ℕ) (t : T) (u : U)
+    → zs ≡ xs → (t ≡ F zs) × (u ≡ G zs) → (t ≡ F xs) × (u ≡ G xs)
+of-copy F G xs zs t u z p = (p .0 ∙ ap F z, p .1 ∙ ap G z)
+
+-- ---- the part of a buffer from w to e, over which as many bytes are laid
+
+module _ (w e : ℕ) (xs buf : List ℕ) (ends : e ≡ w + length xs) (within : e ≤ length buf) where
+  abbrev part : List ℕ
+  part = take (e - w) (drop w buf)
+
+  part-size : length xs ≡ length part
+  part-size =
+      let d : length (drop w buf) ≡ length buf - w = length-drop w buf in
+      let t : length part ≡ e - w = length-take-le (e - w) (drop w buf) (omega arith) in
+      let n : e - w ≡ length xs = omega arith in
+      sym (t ∙ n)
+
+  laid : over xs part ≡ xs
+  laid = over-same xs part part-size
+
+-- a buffer that is lent as one part
+whole : (n : ℕ) (o buf : List ℕ) → length buf ≤ n → putMid 0 (n - 0) buf o ≡ o
+whole n o buf h = ap (λ (l : List ℕ). o ++ l) (drop-of-length-le buf {i = n - 0} (omega arith)) ∙ append-nil o
 
 -- ---- the counter: `ladder` is a ladder by what the session is found to be, and n the length of the piece
 
@@ -67,15 +87,16 @@ module _ {S : Type 0} (s : Session S) (ladder : Bool → ℕ) (n : ℕ) (l is : 
   pub is-counted : p .answer ≡ 0 → p .session ≡ withTotal s (s .msgLength + n)
   is-counted h = ap (λ (x : Handed S). x .session) handed ∙ ap (withTotal s) (counted-done (ladder is) (s .msgLength) n (sym answers-ladder ∙ h))
 
--- ---- bytes that a counted session q took
+-- ---- what a counted session q took, zs, is xs
 
-module _ {S : Type 0} (M : Machine S) (m : Mode) (s q : Session S) (n : ℕ) (counted-s : q ≡ withTotal s (s .msgLength + n)) (xs : List ℕ) where
-  advances : (t : Session S) → t ≡ withCore q (after M m (core q) xs) → t ≡ advanced s (after M m (core s) xs) n
+module _ {S : Type 0} (M : Machine S) (m : Mode) (s q : Session S) (n : ℕ) (counted-s : q ≡ withTotal s (s .msgLength + n))
+    (xs zs : List ℕ) (took : zs ≡ xs) where
+  advances : (t : Session S) → t ≡ withCore q (after M m (core q) zs) → t ≡ advanced s (after M m (core s) xs) n
   unfolding advanced
-  advances t e = e ∙ ap (λ (x : Session S). withCore x (after M m (core x) xs)) counted-s
+  advances t e = e ∙ (λ k. withCore (counted-s k) (after M m (core (counted-s k)) (took k)))
 
-  gives : (o : List ℕ) → o ≡ out M m (core q) xs → o ≡ out M m (core s) xs
-  gives o e = e ∙ ap (λ (x : Session S). out M m (core x) xs) counted-s
+  gives : (o : List ℕ) → o ≡ out M m (core q) zs → o ≡ out M m (core s) xs
+  gives o e = e ∙ (λ k. out M m (core (counted-s k)) (took k))
 
 module _ {S : Type 0} (C : Cipher S) where
   open Cipher C using (machine)
@@ -104,17 +125,25 @@ module _ {S : Type 0} (C : Cipher S) where
       seal-counted : p .session ≡ withTotal s (s .msgLength + length msg)
       seal-counted = is-counted s (λ k. answers.sealPiece k (length msg) (length buf) (s .msgLength)) _ _ _ _ _ is-live answer counts h
 
-      pub seal-asks : (p .session .fill < rate) × (length msg ≡ length buf)
-      seal-asks =
-          let o : SealPieceOk (live rate sealing s) (length msg) (length buf) (s .msgLength) = seal-piece-ok (sym seal-ladder ∙ h) in
-          (counted-fill s (p .session) sealing _ (o .is-live) seal-counted, o .same-length)
+      seal-ok : SealPieceOk (live rate sealing s) (length msg) (length buf) (s .msgLength)
+      seal-ok = seal-piece-ok (sym seal-ladder ∙ h)
 
-      pub seal-done : (t : Session S) (o : List ℕ) → t ≡ withCore (p .session) (after machine enc (core (p .session)) msg)
-          → o ≡ out machine enc (core (p .session)) msg → _≡_ {A = Wrote S} (record { answer = 0; session = t; out = o }) (sealPiece C s msg buf)
+      pub seal-fits : length msg ≤ length buf
+      seal-fits = omega (arith, seal-ok .same-length)
+
+      pub seal-asks : p .session .fill < rate
+      seal-asks = counted-fill s (p .session) sealing _ (seal-ok .is-live) seal-counted
+
+      pub seal-done : (t : Session S) (o : List ℕ)
+          → t ≡ withCore (p .session) (after machine enc (core (p .session)) (over msg (take (length msg - 0) buf)))
+          → o ≡ out machine enc (core (p .session)) (over msg (take (length msg - 0) buf))
+          → _≡_ {A = Wrote S} (record { answer = 0; session = t; out = putMid 0 (length msg - 0) buf o }) (sealPiece C s msg buf)
       unfolding sealPiece
       seal-done t o et eo =
-          let t-is = advances machine enc s (p .session) _ seal-counted msg t et in
-          let o-is = gives machine enc s (p .session) _ seal-counted msg o eo in
+          let is-msg = laid 0 (length msg) msg buf (omega arith) seal-fits in
+          let t-is = advances machine enc s (p .session) _ seal-counted msg _ is-msg t et in
+          let o-is = whole (length msg) o buf (omega (arith, seal-ok .same-length))
+          ∙ gives machine enc s (p .session) _ seal-counted msg _ is-msg o eo in
           does _ (p .answer) _ _ _ seal-ladder h (λ k. record { answer = 0; session = t-is k; out = o-is k })
 
   -- ---- a sealing piece in place
@@ -146,8 +175,8 @@ module _ {S : Type 0} (C : Cipher S) where
           → o ≡ out machine enc (core (p .session)) buf → _≡_ {A = Wrote S} (record { answer = 0; session = t; out = o }) (sealPieceInPlace C s buf)
       unfolding sealPieceInPlace
       in-place-done t o et eo =
-          let t-is = advances machine enc s (p .session) _ in-place-counted buf t et in
-          let o-is = gives machine enc s (p .session) _ in-place-counted buf o eo in
+          let t-is = advances machine enc s (p .session) _ in-place-counted buf buf refl t et in
+          let o-is = gives machine enc s (p .session) _ in-place-counted buf buf refl o eo in
           does _ (p .answer) _ _ _ in-place-ladder h (λ k. record { answer = 0; session = t-is k; out = o-is k })
 
   -- ---- a MAC piece
@@ -179,7 +208,7 @@ module _ {S : Type 0} (C : Cipher S) where
           → _≡_ {A = Handed S} (record { answer = 0; session = t }) (macPiece C s data′)
       unfolding macPiece
       mac-done t et =
-          let t-is = advances (silent machine) enc s (p .session) _ mac-counted data′ t et in
+          let t-is = advances (silent machine) enc s (p .session) _ mac-counted data′ data′ refl t et in
           does _ (p .answer) _ _ _ mac-ladder h (λ k. record { answer = 0; session = t-is k })
 
   -- ---- an opening piece: the part of the plaintext buffer from the count written to that count and the piece's length
@@ -209,17 +238,13 @@ module _ {S : Type 0} (C : Cipher S) where
       pub open-fits : s .written + length ct ≤ length plain
       open-fits = let o = open-ok in omega (arith, o .in-room, o .same-buffer)
 
-      pub open-asks : (p .session .fill < rate) × (length ct ≡ length (take ((s .written + length ct) - s .written) (drop (s .written) plain)))
-      open-asks =
-          let n : (s .written + length ct) - s .written ≡ length ct = omega arith in
-          let d : length (drop (s .written) plain) ≡ length plain - s .written = length-drop (s .written) plain in
-          let f : s .written + length ct ≤ length plain = open-fits in
-          let t : length (take ((s .written + length ct) - s .written) (drop (s .written) plain)) ≡ (s .written + length ct) - s .written
-          = length-take-le _ (drop (s .written) plain) (omega arith) in
-          (counted-fill s (p .session) opening _ (open-ok .is-live) open-counted, sym (t ∙ n))
+      pub open-asks : p .session .fill < rate
+      open-asks = counted-fill s (p .session) opening _ (open-ok .is-live) open-counted
 
-      pub open-done : (t : Session S) (o : List ℕ) → t ≡ withCore (p .session) (after machine dec (core (p .session)) ct)
-          → o ≡ out machine dec (core (p .session)) ct
+      pub open-done : (t : Session S) (o : List ℕ)
+          → t ≡ withCore (p .session)
+          (after machine dec (core (p .session)) (over ct (take ((s .written + length ct) - s .written) (drop (s .written) plain))))
+          → o ≡ out machine dec (core (p .session)) (over ct (take ((s .written + length ct) - s .written) (drop (s .written) plain)))
           → _≡_ {A = Wrote S}
           (record {
             answer = 0;
@@ -239,8 +264,9 @@ module _ {S : Type 0} (C : Cipher S) where
           (openPiece C s ct plain)
       unfolding openPiece advanced wroteMore
       open-done t o et eo =
-          let t-is = advances machine dec s (p .session) _ open-counted ct t et in
-          let o-is = gives machine dec s (p .session) _ open-counted ct o eo in
+          let is-ct = laid (s .written) (s .written + length ct) ct plain refl open-fits in
+          let t-is = advances machine dec s (p .session) _ open-counted ct _ is-ct t et in
+          let o-is = gives machine dec s (p .session) _ open-counted ct _ is-ct o eo in
           let n : (s .written + length ct) - s .written ≡ length ct = omega arith in
           let m : (s .written + length ct) - s .written ≡ length (out machine dec (core s) ct) = n ∙ sym (out-length machine dec (core s) ct) in
           does _ (p .answer) _ _ _ open-ladder h

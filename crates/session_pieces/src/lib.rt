@@ -1,7 +1,7 @@
 // Pieces: a refused one changes nothing and is not counted.
 ghost use mathlib.Core.Path.{_≡_};
 ghost use Prim.Native.Nat.{_<_};
-ghost use lib.ListN.{length};
+ghost use Rattle.lent.specs.Lent.{over};
 ghost use Rattle.promises.specs.Met.{SealPieceMet, SealPieceInPlaceMet, OpenPieceMet, MacPieceMet};
 ghost use Rattle.aegis128l.specs.Cipher.{aegis128l};
 ghost use Rattle.aegis128l_core.specs.View.{coreOf};
@@ -49,11 +49,11 @@ fn transformed(s: Session, decrypt: bool, buf: &mut [u8]) -> Session
     with_core(s, c)
 }
 
-// And from one buffer to another of its length.
+// And from one buffer to another, over which it is laid first.
 fn transformed_into(s: Session, decrypt: bool, src: &[u8], dst: &mut [u8]) -> Session
-    requires { ⌜ (s .fill < 32) × (length (now src) ≡ length (now dst)) ⌝ }
-    ensures { λ r. ⌜ (sessionOf r ≡ fedWith decrypt (sessionOf s) (now (src .entry)))
-        × (now (dst .exit) ≡ outWith decrypt (sessionOf s) (now (src .entry))) ⌝ }
+    requires { ⌜ s .fill < 32 ⌝ }
+    ensures { λ r. ⌜ (sessionOf r ≡ fedWith decrypt (sessionOf s) (over (now (src .entry)) (now (dst .entry))))
+        × (now (dst .exit) ≡ outWith decrypt (sessionOf s) (over (now (src .entry)) (now (dst .entry)))) ⌝ }
 {
     lent::put(src, dst);
     transformed(s, decrypt, dst)
@@ -65,12 +65,13 @@ pub fn seal_piece(s: Session, msg: &[u8], out: &mut [u8]) -> Piece
         (r .answer) (sessionOf (r .session)) (now (out .exit)) ⌝ }
 {
     let live = session::live(s, session::SEALING);
-    let a = answers::pieces::seal_piece(live, msg.len(), out.len(), s.msg_len);
+    let n = msg.len();
+    let a = answers::pieces::seal_piece(live, n, out.len(), s.msg_len);
     let p = counted(s, a);
     if p.answer != answers::DONE {
         return p;
     }
-    let r = transformed_into(p.session, false, msg, out);
+    let r = transformed_into(p.session, false, msg, &mut out[0..n]);
     Piece {
         answer: answers::DONE,
         session: r,
