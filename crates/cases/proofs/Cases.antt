@@ -3,7 +3,7 @@
 use mathlib.Core.Path.{_≡_, refl}
 use mathlib.Core.List.{map}
 use Rattle.machine.specs.Lengths.{lengthBlock}
-use Rattle.answers.specs.Length.{addedTo}
+use Rattle.answers.specs.Length.{counted, addedTo}
 use Rattle.aes.specs.Field.{xtime, mulBits, mul, inv, affine, sbox}
 use Rattle.aes.specs.Round.{mixed, roundOf, xorOf, andOf}
 use Rattle.aegis128l.specs.Aegis128L.{update, absorb, keystream}
@@ -11,5 +11,5 @@ use Rattle.hub_record.specs.Nonce.{nonceOf}
 use Rattle.cases.specs.Cases.{cases}
 
 pub hold : map (λ c. c .gives) cases ≡ map (λ c. c .must) cases
-unfolding xtime mulBits mul inv affine sbox mixed roundOf xorOf andOf addedTo lengthBlock update absorb keystream nonceOf
+unfolding xtime mulBits mul inv affine sbox mixed roundOf xorOf andOf counted addedTo lengthBlock update absorb keystream nonceOf
 hold = refl

@@ -13,7 +13,19 @@ use Rattle.aegis128l.specs.View.{blocksOf}
 use Rattle.session.specs.declared.Session.{Session}
 use Rattle.session.specs.declared.Piece.{Piece}
 use Rattle.session.specs.declared.Finish.{Finish}
-use Rattle.session.specs.View.{sessionOf, handedOf, wroteOf, openedOf}
+use Rattle.session.specs.View.{sessionOf, handedOf}
+
+-- an outcome as the promises see it, with what the lent buffer then holds
+abbrev pub wroteOf : Piece → List ℕ → promise.Wrote Blocks
+wroteOf r out = record { answer = r .answer; session = sessionOf (r .session); out = out }
+
+abbrev pub openedOf : Finish → List ℕ → promise.Opened Blocks
+openedOf r out = record {
+  answer = r .opened .answer;
+  count = r .opened .count;
+  session = sessionOf (r .session);
+  out = out;
+}
 
 -- ---- eight blocks from their bytes, and back
 

@@ -3,14 +3,12 @@
 use Prim.Native.Nat.{ℕ}
 use mathlib.Core.Bool.{Bool}
 use mathlib.Core.List.{List}
-use lib.ListN.{length}
-use Rattle.machine.specs.Machine.{after, out}
+use Rattle.machine.specs.Machine.{Core, after, out}
 use Rattle.promises.specs.Session as promise
 use Rattle.aegis128l.specs.Aegis128L.{Blocks, machine}
 use Rattle.aegis128l.specs.View.{blocksOf, modeOf}
 use Rattle.session.specs.declared.Session.{Session}
 use Rattle.session.specs.declared.Piece.{Piece}
-use Rattle.session.specs.declared.Finish.{Finish}
 
 abbrev pub sessionOf : Session → promise.Session Blocks
 sessionOf s = record {
@@ -25,25 +23,42 @@ sessionOf s = record {
   written = s .written;
 }
 
+-- a session whose counter was brought to a total
+abbrev pub withTotal : {S : Type 0} → promise.Session S → ℕ → promise.Session S
+withTotal s total = record {
+  state = s .state;
+  buf = s .buf;
+  fill = s .fill;
+  adLength = s .adLength;
+  msgLength = total;
+  tagSize = s .tagSize;
+  mark = s .mark;
+  room = s .room;
+  written = s .written;
+}
+
+-- and one whose machine was brought to c
+abbrev pub withCore : {S : Type 0} → promise.Session S → Core S → promise.Session S
+withCore s c = record {
+  state = c .state;
+  buf = c .buf;
+  fill = c .fill;
+  adLength = s .adLength;
+  msgLength = s .msgLength;
+  tagSize = s .tagSize;
+  mark = s .mark;
+  room = s .room;
+  written = s .written;
+}
+
 -- a session after bytes that its machine encrypted, or decrypted
 abbrev pub fedWith : Bool → promise.Session Blocks → List ℕ → promise.Session Blocks
-fedWith decrypt s xs = promise.advanced s (after machine (modeOf decrypt) (promise.core s) xs) (length xs)
+fedWith decrypt s xs = withCore s (after machine (modeOf decrypt) (promise.core s) xs)
 
 -- and what comes out for them
 abbrev pub outWith : Bool → promise.Session Blocks → List ℕ → List ℕ
 outWith decrypt s xs = out machine (modeOf decrypt) (promise.core s) xs
 
--- what was handed back, alone and with what the lent buffer then holds
+-- what is handed back beside no buffer
 abbrev pub handedOf : Piece → promise.Handed Blocks
 handedOf r = record { answer = r .answer; session = sessionOf (r .session) }
-
-abbrev pub wroteOf : Piece → List ℕ → promise.Wrote Blocks
-wroteOf r out = record { answer = r .answer; session = sessionOf (r .session); out = out }
-
-abbrev pub openedOf : Finish → List ℕ → promise.Opened Blocks
-openedOf r out = record {
-  answer = r .opened .answer;
-  count = r .opened .count;
-  session = sessionOf (r .session);
-  out = out;
-}

@@ -5,8 +5,9 @@ ghost use lib.Dec.{eqb};
 ghost use lib.ListN.{length};
 ghost use Rattle.lent.specs.Lent.{same, wiped};
 ghost use Rattle.promises.specs.Session as promise;
+ghost use Rattle.promises.specs.Met.{SealFinishMet, OpenFinishMet, AbortMet, MacFinishMet, MacFinishCheckMet};
 ghost use Rattle.aegis128l.specs.Cipher.{aegis128l, aegis128lMac};
-ghost use Rattle.session.specs.View.{sessionOf, handedOf, wroteOf, openedOf};
+ghost use Rattle.session.specs.View.{sessionOf};
 use session::Finish;
 use session::Opened;
 use session::Piece;
@@ -63,7 +64,8 @@ fn mac_matches(s: Session, tag: &[u8]) -> bool
 }
 
 pub fn seal_finish(s: Session, tag: &mut [u8]) -> Piece
-    ensures { λ r. ⌜ wroteOf r (now (tag .exit)) ≡ promise.sealFinish aegis128l (sessionOf s) (now (tag .entry)) ⌝ }
+    ensures { λ r. ⌜ SealFinishMet aegis128l (sessionOf s) (now (tag .entry))
+        (r .answer) (sessionOf (r .session)) (now (tag .exit)) ⌝ }
 {
     let live = session::live(s, session::SEALING);
     let a = answers::pieces::finish(live, tag.len(), s.tag_size);
@@ -78,7 +80,8 @@ pub fn seal_finish(s: Session, tag: &mut [u8]) -> Piece
 }
 
 pub fn mac_finish(s: Session, tag: &mut [u8]) -> Piece
-    ensures { λ r. ⌜ wroteOf r (now (tag .exit)) ≡ promise.macFinish aegis128l aegis128lMac (sessionOf s) (now (tag .entry)) ⌝ }
+    ensures { λ r. ⌜ MacFinishMet aegis128l aegis128lMac (sessionOf s) (now (tag .entry))
+        (r .answer) (sessionOf (r .session)) (now (tag .exit)) ⌝ }
 {
     let live = session::live(s, session::MACING);
     let a = answers::pieces::finish(live, tag.len(), s.tag_size);
@@ -93,7 +96,8 @@ pub fn mac_finish(s: Session, tag: &mut [u8]) -> Piece
 }
 
 pub fn mac_finish_check(s: Session, tag: &[u8]) -> Piece
-    ensures { λ r. ⌜ handedOf r ≡ promise.macFinishCheck aegis128l aegis128lMac (sessionOf s) (now (tag .entry)) ⌝ }
+    ensures { λ r. ⌜ MacFinishCheckMet aegis128l aegis128lMac (sessionOf s) (now (tag .entry))
+        (r .answer) (sessionOf (r .session)) ⌝ }
 {
     let live = session::live(s, session::MACING);
     let a = answers::pieces::finish(live, tag.len(), s.tag_size);
@@ -134,7 +138,8 @@ fn erase(s: Session, plain: &mut [u8])
 
 // Only answer 0 releases the written prefix; 7 erases it.
 pub fn open_finish(s: Session, tag: &[u8], plain: &mut [u8]) -> Finish
-    ensures { λ r. ⌜ openedOf r (now (plain .exit)) ≡ promise.openFinish aegis128l (sessionOf s) (now (tag .entry)) (now (plain .entry)) ⌝ }
+    ensures { λ r. ⌜ OpenFinishMet aegis128l (sessionOf s) (now (tag .entry)) (now (plain .entry))
+        (r .opened .answer) (r .opened .count) (sessionOf (r .session)) (now (plain .exit)) ⌝ }
 {
     let live = session::live(s, session::OPENING);
     let a = answers::pieces::open_finish(live, plain.len(), s.room, tag.len(), s.tag_size);
@@ -171,7 +176,8 @@ fn same_buffer_lent(s: Session, held: usize) -> bool
 }
 
 pub fn abort(s: Session, plain: &mut [u8]) -> Piece
-    ensures { λ r. ⌜ wroteOf r (now (plain .exit)) ≡ promise.abort aegis128l (sessionOf s) (now (plain .entry)) ⌝ }
+    ensures { λ r. ⌜ AbortMet aegis128l (sessionOf s) (now (plain .entry))
+        (r .answer) (sessionOf (r .session)) (now (plain .exit)) ⌝ }
 {
     let live = abort_live(s);
     let same_buffer = same_buffer_lent(s, plain.len());

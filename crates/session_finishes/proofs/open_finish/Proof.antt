@@ -4,7 +4,7 @@ use mathlib.Core.Path.{ap, _∙_}
 use borrow.Author.Needs.{needs}
 use Rattle.aegis128l.specs.Cipher.{aegis128l}
 use Rattle.session.specs.declared.Finish.{Finish}
-use Rattle.session.specs.View.{openedOf}
+use Rattle.session.proofs.View.{openedOf}
 use Rattle.session_finishes.proofs.FinishCalls.{open-refused, open-asks, open-released, open-erased}
 use Rattle.session_finishes.proofs.open_finish.Statement.{statement}
 use Rattle.session_finishes.proofs.open_finish.Tie as tie

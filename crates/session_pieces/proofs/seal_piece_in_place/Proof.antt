@@ -7,24 +7,30 @@ use Rattle.session_pieces.proofs.seal_piece_in_place.Statement.{stateme
 use Rattle.session_pieces.proofs.seal_piece_in_place.Tie as tie
 
 returns : tie.Need-returns
-returns c = in-place-refused aegis128l _ _ _ _ (c .before .before .live .ensures) (c .before .piece .ensures) (c .if1 .taken)
+returns c =
+    let earlier = c .before .before in
+    in-place-refused aegis128l _ _ _ _ _ (earlier .before .before .live .ensures) (earlier .before .piece .ensures) (earlier .counted .ensures) (c .if1 .taken)
 
 transformed-requires : tie.Need-transformed-requires
 transformed-requires c κs =
     let tested = c .before in
-    in-place-asks aegis128l _ (tested .before .before .before .before .args .buf .now) _ _ (tested .before .before .live .ensures)
-    (tested .before .piece .ensures) (tested .if1 .left)
+    let earlier = tested .before .before in
+    in-place-asks aegis128l _ (earlier .before .before .before .before .args .buf .now) _ _ _ (earlier .before .before .live .ensures)
+    (earlier .before .piece .ensures) (earlier .counted .ensures) (tested .if1 .left)
 
 returns-2 : tie.Need-returns-2
 returns-2 c =
     let tested = c .before .before .before .before in
+    let earlier = tested .before .before in
     let t = c .before .before .transformed .ensures in
-    in-place-done aegis128l _ _ _ _ (tested .before .before .live .ensures) (tested .before .piece .ensures) (tested .if1 .left) _ _ (t .0) (t .1)
+    in-place-done aegis128l _ _ _ _ _ (earlier .before .before .live .ensures) (earlier .before .piece .ensures) (earlier .counted .ensures)
+    (tested .if1 .left) _ _ (t .0) (t .1)
 
 pub seal-piece-in-place-spec : {M : Type 1} → statement M
 seal-piece-in-place-spec =
     tie.close
     (tie.spec
+    (λ c κs. search needs)
     (λ c κs. search needs)
     (λ c κs. search needs)
     returns

@@ -13,14 +13,14 @@ transform-requires c κs =
     let earlier = c .before .before in (
       earlier .before .sbox .ensures,
       core-fill aegis128l (sessionOf (earlier .before .before .before .args .s)) _
-          (earlier .core-of .ensures) (earlier .before .before .before .pre .0),
+          (earlier .core-of .ensures) (earlier .before .before .before .pre),
     )
 
 returns : tie.Need-returns
 returns c =
     let earlier = c .before .before .before in
     let t = earlier .transform .ensures in
-    changed _ _ _ _ _ _ _ (earlier .before .before .before .core-of .ensures) (t .0) _ (t .1) (c .advanced .ensures)
+    changed _ _ _ _ _ _ _ (earlier .before .before .before .core-of .ensures) (t .0) (c .with-core .ensures) _ (t .1)
 
 pub transformed-spec : {M : Type 1} → statement M
 transformed-spec =

@@ -1,4 +1,4 @@
--- `transformed_into` meets its contract: after the copy the bytes are the source's.
+-- `transformed_into` meets its contract: the bytes that go through are the source's, laid over the buffer.
 -- Assumes nothing.
 use borrow.Author.Needs.{needs}
 use Rattle.session.specs.View.{sessionOf, fedWith, outWith}
@@ -10,9 +10,8 @@ returns : tie.Need-returns
 returns c =
     let earlier = c .before .before in
     let a = earlier .before .before .before .before .before .before .before .before .args in
-    of-copy (fedWith (a .decrypt) (sessionOf (a .s))) (outWith (a .decrypt) (sessionOf (a .s))) _ _ _ _ _
-    (earlier .before .before .before .before .put .ensures)
-    (earlier .before .before .before .before .before .before .before .before .pre .1 .1) (earlier .transformed .ensures)
+    of-copy (fedWith (a .decrypt) (sessionOf (a .s))) (outWith (a .decrypt) (sessionOf (a .s))) _ _ _ _
+    (earlier .before .before .before .before .put .ensures) (earlier .transformed .ensures)
 
 pub transformed-into-spec : {M : Type 1} → statement M
 transformed-into-spec =
