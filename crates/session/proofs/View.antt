@@ -15,10 +15,6 @@ use Rattle.session.specs.declared.Piece.{Piece}
 use Rattle.session.specs.declared.Finish.{Finish}
 use Rattle.session.specs.View.{sessionOf, handedOf}
 
--- an outcome as the promises see it, with what the lent buffer then holds
-abbrev pub wroteOf : Piece → List ℕ → promise.Wrote Blocks
-wroteOf r out = record { answer = r .answer; session = sessionOf (r .session); out = out }
-
 abbrev pub openedOf : Finish → List ℕ → promise.Opened Blocks
 openedOf r out = record {
   answer = r .opened .answer;
@@ -66,32 +62,6 @@ same-session s t hs ht e =
     }
 
 module _ (r q : Piece) (hr : length (r .session .blocks) ≡ 8) (hq : length (q .session .blocks) ≡ 8) where
-  pub same-piece : handedOf r ≡ handedOf q → r ≡ q
-  same-piece e =
-      let s : r .session ≡ q .session = same-session (r .session) (q .session) hr hq (ap (λ (x : promise.Handed Blocks). x .session) e) in
-      λ k. record { answer = e k .answer; session = s k }
-
-  -- with what the lent buffer then holds
-  pub same-wrote : (xs ys : List ℕ) → wroteOf r xs ≡ wroteOf q ys → (r ≡ q) × (xs ≡ ys)
-  same-wrote xs ys e = (
-    same-piece (λ k. record { answer = e k .answer; session = e k .session }),
-    ap (λ (x : promise.Wrote Blocks). x .out) e,
   )
 
-  -- two outcomes that meet one promise are equal
-  pub unique-piece : (p : promise.Handed Blocks) → handedOf r ≡ p → handedOf q ≡ p → r ≡ q
-  unique-piece p e f = same-piece (e ∙ sym f)
-
-  pub unique-wrote : (p : promise.Wrote Blocks) (xs ys : List ℕ) → wroteOf r xs ≡ p → wroteOf q ys ≡ p → (r ≡ q) × (xs ≡ ys)
-  unique-wrote p xs ys e f = same-wrote xs ys (e ∙ sym f)
-
 module _ (r q : Finish) (hr : length (r .session .blocks) ≡ 8) (hq : length (q .session .blocks) ≡ 8) where
-  pub same-opened : (xs ys : List ℕ) → openedOf r xs ≡ openedOf q ys → (r ≡ q) × (xs ≡ ys)
-  same-opened xs ys e =
-      let s : r .session ≡ q .session = same-session (r .session) (q .session) hr hq (ap (λ (x : promise.Opened Blocks). x .session) e) in (
-        (λ k. record { opened = record { answer = e k .answer; count = e k .count }; session = s k }),
-        ap (λ (x : promise.Opened Blocks). x .out) e,
-      )
-
-  pub unique-opened : (p : promise.Opened Blocks) (xs ys : List ℕ) → openedOf r xs ≡ p → openedOf q ys ≡ p → (r ≡ q) × (xs ≡ ys)
-  unique-opened p xs ys e f = same-opened xs ys (e ∙ sym f)

@@ -74,17 +74,17 @@ module _ {S : Type 0} (s : Session S) (ladder : Bool → ℕ) (n : ℕ) (l is : 
       (answer ∙ ap (λ (x : Bool). counted (ladder x) (s .msgLength) n) found)
       ∙ (λ i. record { answer = counted-answer (ladder is) (s .msgLength) n i; session = withTotal s (counted (ladder is) (s .msgLength) n .counter .total) })
 
-  pub answers-ladder : p .answer ≡ ladder is
+  answers-ladder : p .answer ≡ ladder is
   answers-ladder = ap (λ (x : Handed S). x .answer) handed
 
   -- a refused piece is not counted
-  pub not-counted : (p .answer ≡ 0 → ⊥) → p .session ≡ s
+  not-counted : (p .answer ≡ 0 → ⊥) → p .session ≡ s
   not-counted h =
       ap (λ (x : Handed S). x .session) handed
       ∙ ap (λ (x : Added). withTotal s (x .counter .total)) (sym (counted-refused (ladder is) (s .msgLength) n (λ z. h (answers-ladder ∙ z))))
 
   -- and one that is not refused is
-  pub is-counted : p .answer ≡ 0 → p .session ≡ withTotal s (s .msgLength + n)
+  is-counted : p .answer ≡ 0 → p .session ≡ withTotal s (s .msgLength + n)
   is-counted h = ap (λ (x : Handed S). x .session) handed ∙ ap (withTotal s) (counted-done (ladder is) (s .msgLength) n (sym answers-ladder ∙ h))
 
 -- ---- what a counted session q took, zs, is xs

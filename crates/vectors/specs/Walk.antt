@@ -21,10 +21,10 @@ pub data Holds (r : Layout) (l : List ℕ) : ℕ → Type 0 where
   stream : Streamed (keyIn l) (nonceIn l) (ctIn r l) → Holds r l 4
 
 -- one more of a kind, and its cuttings
-abbrev pub one : ℕ → ℕ → ℕ → ℕ
+abbrev one : ℕ → ℕ → ℕ → ℕ
 one kind which n = cond (eqb kind which) (n + 1) n
 
-abbrev pub more : ℕ → ℕ → ℕ → ℕ → ℕ
+abbrev more : ℕ → ℕ → ℕ → ℕ → ℕ
 more kind which k n = cond (eqb kind which) (n + k) n
 
 abbrev pub counted : Tally → ℕ → ℕ → Tally
