@@ -8,6 +8,6 @@ fn main() {
     let n = io::read_full(STDIN_FILENO, &mut buf);
     let r = hub_record::reply::reply(&mut buf, n);
     let a = r.start;
-    let e = a + r.length;
+    let e = a + r.count;
     io::write_all(STDOUT_FILENO, &buf[a..e]);
 }

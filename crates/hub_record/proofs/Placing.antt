@@ -33,20 +33,20 @@ put-before word out {t} {ys} a e n h et ey =
 -- ---- placed
 
 module _ (t buf : List ℕ) (e : ℕ) where
-  pub placed-none : length buf < length t → record { start = 0; length = 0; buf = buf } ≡ placed t e buf
+  pub placed-none : length buf < length t → record { start = 0; count = 0; buf = buf } ≡ placed t e buf
   unfolding placed
   placed-none h = rw (lt-leb (length t) (length buf) h)
 
   placed-fits : (s n : ℕ) (b : List ℕ) → s ≡ e - length t → n ≡ length t → length t ≤ length buf
-      → b ≡ take s buf ++ (t ++ drop (s + n) buf) → record { start = s; length = n; buf = b } ≡ placed t e buf
+      → b ≡ take s buf ++ (t ++ drop (s + n) buf) → record { start = s; count = n; buf = b } ≡ placed t e buf
   unfolding placed
   placed-fits s n b es en h eb =
       rw (le-leb (length t) (length buf) h)
-      (λ i. record { start = es i; length = en i; buf = (eb ∙ (λ j. take (es j) buf ++ (t ++ drop (es j + en j) buf))) i })
+      (λ i. record { start = es i; count = en i; buf = (eb ∙ (λ j. take (es j) buf ++ (t ++ drop (es j + en j) buf))) i })
 
 -- at the start
 pub placed-front : (t buf : List ℕ) (k : ℕ) {r : List ℕ} → k ≡ length t → k ≤ length buf → r ≡ over t buf
-    → record { start = 0; length = k; buf = r } ≡ placed t 0 buf
+    → record { start = 0; count = k; buf = r } ≡ placed t 0 buf
 placed-front t buf k {r} n h er =
     let f : length t ≤ length buf = omega arith in
     let z : length t ≡ 0 + k = omega arith in
@@ -55,7 +55,7 @@ placed-front t buf k {r} n h er =
 -- right before `count` bytes of the buffer, which end the text
 pub placed-before : (t buf : List ℕ) (at start count k : ℕ) {ys : List ℕ} → k ≡ length t → at + k ≡ start → start + count ≤ length buf
     → ys ≡ over t (between at start buf)
-    → record { start = at; length = k + count; buf = putMid at (start - at) buf ys }
+    → record { start = at; count = k + count; buf = putMid at (start - at) buf ys }
     ≡ placed (t ++ between start (start + count) buf) (start + count) buf
 placed-before t buf at start count k {ys} n p h ey =
     let m : length (between at start buf) ≡ start - at = mid-len at start buf (omega arith) in

@@ -38,11 +38,11 @@ module _ (l : List ℕ) where
     pub verdict-refused : (v ≡ 0 → ⊥) → refusedRecord o v ≡ openRecordOf l
     verdict-refused n = refused-by v o _ n ∙ verdict
 
-    pub verdict-opened : v ≡ 0 → record { answer = 0; start = a; length = e - a; input = o } ≡ openRecordOf l
+    pub verdict-opened : v ≡ 0 → record { answer = 0; start = a; count = e - a; input = o } ≡ openRecordOf l
     verdict-opened z = opened-by v z ∙ verdict
       where
         opened-by : (v : ℕ) → v ≡ 0
-            → _≡_ {A = RecordLeft} (record { answer = 0; start = a; length = e - a; input = o }) (openedRecord a e (record { answer = v; out = o }))
+            → _≡_ {A = RecordLeft} (record { answer = 0; start = a; count = e - a; input = o }) (openedRecord a e (record { answer = v; out = o }))
         opened-by v z = rw z refl
 
 -- ---- where the plaintext stands
@@ -50,19 +50,19 @@ module _ (l : List ℕ) where
 -- a refusal hands back 0 and 0
 pub record Nowhere (r : RecordLeft) : Type 0 where
   pub start : r .start ≡ 0
-  pub length : r .length ≡ 0
+  pub count : r .count ≡ 0
 
 nowhere-by : (a : ℕ) (l : List ℕ) (more : RecordLeft) → ((more .answer ≡ 0 → ⊥) → Nowhere more)
     → ((onDone a (refusedRecord l) more) .answer ≡ 0 → ⊥) → Nowhere (onDone a (refusedRecord l) more)
 nowhere-by zero l more h n = h n
-nowhere-by (suc a) l more h n = record { start = refl; length = refl }
+nowhere-by (suc a) l more h n = record { start = refl; count = refl }
 
 pub refused-nowhere : (l : List ℕ) → ((openRecordOf l) .answer ≡ 0 → ⊥) → Nowhere (openRecordOf l)
 unfolding openRecordOf
 refused-nowhere l =
     let r = openParts l (textStart l) (textEnd l) in
     nowhere-by (shape (length l) (tagSizeIn l) (adLengthIn l)) l (openedRecord (textStart l) (textEnd l) r)
-    (nowhere-by (r .answer) (r .out) (record { answer = 0; start = textStart l; length = textEnd l - textStart l; input = r .out })
+    (nowhere-by (r .answer) (r .out) (record { answer = 0; start = textStart l; count = textEnd l - textStart l; input = r .out })
     (λ n. absurd (n refl)))
 
 -- ---- what an opened record is
@@ -79,7 +79,7 @@ pub record Opens (l : List ℕ) : Type 0 where
       ≡ record {
         answer = 0;
         start = textStart l;
-        length = textEnd l - textStart l;
+        count = textEnd l - textStart l;
         input = (openParts l (textStart l) (textEnd l)) .out;
       }
 
@@ -117,12 +117,12 @@ record-length l =
 
 -- an opened plaintext stands behind the head, within the input
 pub opened-within : (l : List ℕ) → (openRecordOf l) .answer ≡ 0
-    → (headSize ≤ (openRecordOf l) .start) × ((openRecordOf l) .start + (openRecordOf l) .length ≤ length ((openRecordOf l) .input))
+    → (headSize ≤ (openRecordOf l) .start) × ((openRecordOf l) .start + (openRecordOf l) .count ≤ length ((openRecordOf l) .input))
 opened-within l h =
     let o = opens l h in
     let k = o .shaped in
     let s : (openRecordOf l) .start ≡ textStart l = ap (λ (r : RecordLeft). r .start) (o .left) in
-    let n : (openRecordOf l) .length ≡ textEnd l - textStart l = ap (λ (r : RecordLeft). r .length) (o .left) in
+    let n : (openRecordOf l) .count ≡ textEnd l - textStart l = ap (λ (r : RecordLeft). r .count) (o .left) in
     let m : length ((openRecordOf l) .input) ≡ length l = record-length l in
     let p : headSize + adLengthIn l + tagSizeIn l ≤ length l = k .parts in
     (omega arith, omega arith)

@@ -73,7 +73,7 @@ module _ (l : List ℕ) (k : ShapeOk (length l) (tagSizeIn l) (adLengthIn l)) wh
 pub data Leaves (l : List ℕ) : RecordLeft → Type 0 where
   misshapen : (a : ℕ) → (a ≡ 1) ⊎ (a ≡ 11) → Leaves l (refusedRecord l a)
   erased : Leaves l (refusedRecord (withText l (replicate (textEnd l - textStart l) 0xaa)) 7)
-  opened : Leaves l (record { answer = 0; start = textStart l; length = textEnd l - textStart l; input = withText l (plainIn l) })
+  opened : Leaves l (record { answer = 0; start = textStart l; count = textEnd l - textStart l; input = withText l (plainIn l) })
 
 pub record-leaves : (l : List ℕ) → Leaves l (openRecordOf l)
 record-leaves l =

@@ -53,24 +53,24 @@ module _ (l : List ℕ) where
       rw (text-refused left n) (line-length refusedWord (left .answer) 2 k)
 
   -- the line of an opened record fits in the place of its head
-  opened-length : left .answer ≡ 0 → length (textOf left) ≤ left .start + left .length
+  opened-length : left .answer ≡ 0 → length (textOf left) ≤ left .start + left .count
   opened-length z =
       let o = opens l z in
       let w = opened-within l z in
-      let f : left .length ≤ textLimit
-      = let e : left .length ≡ textEnd l - textStart l = ap (λ (r : RecordLeft). r .length) (o .left) in
+      let f : left .count ≤ textLimit
+      = let e : left .count ≡ textEnd l - textStart l = ap (λ (r : RecordLeft). r .count) (o .left) in
       omega (arith, o .shaped .text-fits) in
-      let k : length (decimal (left .length)) ≤ 20 = decimal-length 19 (left .length) (omega arith) in
-      let n = line-length openedWord (left .length) 20 k in
-      let b : length (between (left .start) (left .start + left .length) (left .input)) ≡ left .length
-      = mid-len (left .start) (left .start + left .length) (left .input) (w .1) ∙ omega arith in
+      let k : length (decimal (left .count)) ≤ 20 = decimal-length 19 (left .count) (omega arith) in
+      let n = line-length openedWord (left .count) 20 k in
+      let b : length (between (left .start) (left .start + left .count) (left .input)) ≡ left .count
+      = mid-len (left .start) (left .start + left .count) (left .input) (w .1) ∙ omega arith in
       rw (text-opened left z)
-      (omega (arith, w .0, length-append (line openedWord (left .length)) (between (left .start) (left .start + left .length) (left .input))))
+      (omega (arith, w .0, length-append (line openedWord (left .count)) (between (left .start) (left .start + left .count) (left .input))))
 
 -- ---- where it stands
 
 placed-holds : (t b : List ℕ) (e : ℕ) → length t ≤ length b → e ≤ length b
-    → take ((placed t e b) .length) (drop ((placed t e b) .start) ((placed t e b) .buf)) ≡ t
+    → take ((placed t e b) .count) (drop ((placed t e b) .start) ((placed t e b) .buf)) ≡ t
 unfolding placed
 placed-holds t b e h q =
     let s = e - length t in
@@ -79,7 +79,7 @@ placed-holds t b e h q =
     ∙ take-at t (drop (s + length t) b) (length t) refl)
 
 pub reply-text : (buf : List ℕ) (n : ℕ) → 11 ≤ length buf
-    → take ((replyOf buf n) .length) (drop ((replyOf buf n) .start) ((replyOf buf n) .buf)) ≡ textOf (openRecordOf (take n buf))
+    → take ((replyOf buf n) .count) (drop ((replyOf buf n) .start) ((replyOf buf n) .buf)) ≡ textOf (openRecordOf (take n buf))
 unfolding replyOf
 reply-text buf n room =
     let l = take n buf in
@@ -92,8 +92,8 @@ reply-text buf n room =
   where
     by : (l b : List ℕ) → 11 ≤ length b → length ((openRecordOf l) .input) ≤ length b → Dec ((openRecordOf l) .answer ≡ 0)
         → let r = openRecordOf l in
-        let p = placed (textOf r) (r .start + r .length) b in
-        take (p .length) (drop (p .start) (p .buf)) ≡ textOf r
+        let p = placed (textOf r) (r .start + r .count) b in
+        take (p .count) (drop (p .start) (p .buf)) ≡ textOf r
     by l b h k (yes z) =
         let o = opened-length l z in
         let w = opened-within l z .1 in
@@ -101,36 +101,36 @@ reply-text buf n room =
     by l b h k (no z) =
         let o = refused-length l z in
         let w = refused-nowhere l z in
-        placed-holds (textOf (openRecordOf l)) b _ (omega arith) (omega (arith, w .start, w .length))
+        placed-holds (textOf (openRecordOf l)) b _ (omega arith) (omega (arith, w .start, w .count))
 
 -- ---- a reply is a part of the buffer
 
-placed-within : (t b : List ℕ) (e : ℕ) → e ≤ length b → (placed t e b) .start + (placed t e b) .length ≤ length ((placed t e b) .buf)
+placed-within : (t b : List ℕ) (e : ℕ) → e ≤ length b → (placed t e b) .start + (placed t e b) .count ≤ length ((placed t e b) .buf)
 unfolding placed
 placed-within t b e q = by (leb (length t) (length b)) refl
   where
     by : (v : Bool) → leb (length t) (length b) ≡ v → let p : Replied = cond v
-        (record { start = e - length t; length = length t; buf = take (e - length t) b ++ (t ++ drop (e - length t + length t) b) })
-        (record { start = 0; length = 0; buf = b }) in p .start + p .length ≤ length (p .buf)
+        (record { start = e - length t; count = length t; buf = take (e - length t) b ++ (t ++ drop (e - length t + length t) b) })
+        (record { start = 0; count = 0; buf = b }) in p .start + p .count ≤ length (p .buf)
     by true h =
         let s = e - length t in
         let n : length (take s b) ≡ s = length-take-le s b (omega arith) in
         omega (arith, length-append (take s b) (t ++ drop (s + length t) b), length-append t (drop (s + length t) b))
     by false h = omega arith
 
-reply-within : (buf : List ℕ) (n : ℕ) → (replyOf buf n) .start + (replyOf buf n) .length ≤ length ((replyOf buf n) .buf)
+reply-within : (buf : List ℕ) (n : ℕ) → (replyOf buf n) .start + (replyOf buf n) .count ≤ length ((replyOf buf n) .buf)
 unfolding replyOf
 reply-within buf n =
     let l = take n buf in
     let r = openRecordOf l in
-    placed-within (textOf r) (r .input ++ drop n buf) (r .start + r .length)
+    placed-within (textOf r) (r .input ++ drop n buf) (r .start + r .count)
     (by l (drop n buf) (ℕ-discrete (r .answer) 0))
   where
     by : (l more : List ℕ) → Dec ((openRecordOf l) .answer ≡ 0)
-        → (openRecordOf l) .start + (openRecordOf l) .length ≤ length ((openRecordOf l) .input ++ more)
+        → (openRecordOf l) .start + (openRecordOf l) .count ≤ length ((openRecordOf l) .input ++ more)
     by l more (yes z) = omega (arith, opened-within l z .1, length-append ((openRecordOf l) .input) more)
-    by l more (no z) = let w = refused-nowhere l z in omega (arith, w .start, w .length)
+    by l more (no z) = let w = refused-nowhere l z in omega (arith, w .start, w .count)
 
 -- as a caller has it, who cuts it out
-pub reply-part : (buf : List ℕ) (n : ℕ) (r : Part) (b : List ℕ) → replied r b ≡ replyOf buf n → r .start + r .length ≤ length b
-reply-part buf n r b e = subst (λ (x : Replied). x .start + x .length ≤ length (x .buf)) (sym e) (reply-within buf n)
+pub reply-part : (buf : List ℕ) (n : ℕ) (r : Part) (b : List ℕ) → replied r b ≡ replyOf buf n → r .start + r .count ≤ length b
+reply-part buf n r b e = subst (λ (x : Replied). x .start + x .count ≤ length (x .buf)) (sym e) (reply-within buf n)

@@ -26,7 +26,7 @@ text-refused r n = by (r .answer) _ n
     by (suc a) t n = refl
 
 pub text-opened : (r : RecordLeft) → r .answer ≡ 0
-    → textOf r ≡ line openedWord (r .length) ++ between (r .start) (r .start + r .length) (r .input)
+    → textOf r ≡ line openedWord (r .count) ++ between (r .start) (r .start + r .count) (r .input)
 unfolding textOf
 text-opened r z = rw z refl
 
@@ -38,21 +38,21 @@ module _ (buf : List ℕ) (n : ℕ) where
   unfolding replyOf
   reply-refused z =
       let w = refused-nowhere (take n buf) z in
-      let p : 0 ≡ left .start + left .length = omega (arith, w .start, w .length) in
+      let p : 0 ≡ left .start + left .count = omega (arith, w .start, w .count) in
       λ i. placed (sym (text-refused left z) i) (p i) (left .input ++ drop n buf)
 
   reply-opened : left .answer ≡ 0
-      → placed (line openedWord (left .length) ++ between (left .start) (left .start + left .length) (left .input ++ drop n buf))
-      (left .start + left .length) (left .input ++ drop n buf)
+      → placed (line openedWord (left .count) ++ between (left .start) (left .start + left .count) (left .input ++ drop n buf))
+      (left .start + left .count) (left .input ++ drop n buf)
       ≡ replyOf buf n
   unfolding replyOf
   reply-opened z =
       let w = opened-within (take n buf) z in
-      let p : line openedWord (left .length) ++ between (left .start) (left .start + left .length) (left .input ++ drop n buf) ≡ textOf left
-      = ap (λ (x : List ℕ). line openedWord (left .length) ++ x)
-      (between-append (left .start) (left .start + left .length) (left .input) (drop n buf) (omega arith) (w .1))
+      let p : line openedWord (left .count) ++ between (left .start) (left .start + left .count) (left .input ++ drop n buf) ≡ textOf left
+      = ap (λ (x : List ℕ). line openedWord (left .count) ++ x)
+      (between-append (left .start) (left .start + left .count) (left .input) (drop n buf) (omega arith) (w .1))
       ∙ sym (text-opened left z) in
-      ap (λ (t : List ℕ). placed t (left .start + left .length) (left .input ++ drop n buf)) p
+      ap (λ (t : List ℕ). placed t (left .start + left .count) (left .input ++ drop n buf)) p
 
 -- ---- what the code's two returns cite: m is n, or the length of the buffer where that is less
 
@@ -79,19 +79,19 @@ module _ (buf : List ℕ) (n m : ℕ) (r : RecordLeft) (least : m ≡ min n (len
       ∙ reply-refused buf n (λ p. z (ap (λ (q : RecordLeft). q .answer) left-is ∙ p))
 
   pub replied-opened : {x : Replied} → r .answer ≡ 0
-      → x ≡ placed (line openedWord (r .length) ++ between (r .start) (r .start + r .length) (r .input ++ drop m buf))
-      (r .start + r .length) (r .input ++ drop m buf)
+      → x ≡ placed (line openedWord (r .count) ++ between (r .start) (r .start + r .count) (r .input ++ drop m buf))
+      (r .start + r .count) (r .input ++ drop m buf)
       → x ≡ replyOf buf n
   replied-opened z e =
       e
       ∙ (λ i.
       let q = left-is i in
       let b = q .input ++ rest-is i in
-      placed (line openedWord (q .length) ++ between (q .start) (q .start + q .length) b) (q .start + q .length) b)
+      placed (line openedWord (q .count) ++ between (q .start) (q .start + q .count) b) (q .start + q .count) b)
       ∙ reply-opened buf n (ap (λ (q : RecordLeft). q .answer) (sym left-is) ∙ z)
 
   -- what the plaintext's line needs of its place
-  pub opened-place : r .answer ≡ 0 → (headSize ≤ r .start) × (r .start + r .length ≤ length (r .input ++ drop m buf))
+  pub opened-place : r .answer ≡ 0 → (headSize ≤ r .start) × (r .start + r .count ≤ length (r .input ++ drop m buf))
   opened-place z =
       let w = rw (← left-is) at (opened-within (take n buf) (ap (λ (q : RecordLeft). q .answer) (sym left-is) ∙ z)) in
       (w .0, omega (arith, w .1, length-append (r .input) (drop m buf)))

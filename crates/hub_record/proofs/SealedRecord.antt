@@ -193,12 +193,12 @@ module _ (key nonce ad text tag : List ℕ) (fit : Fitting key nonce ad text tag
 
     -- the record of a sealed message opens, and its message stands in the place of the ciphertext
     pub sealed-record-opens : openRecordOf whole
-        ≡ record { answer = 0; start = headSize + length ad; length = length msg; input = recordOf key nonce ad msg tag }
+        ≡ record { answer = 0; start = headSize + length ad; count = length msg; input = recordOf key nonce ad msg tag }
     sealed-record-opens =
         let n : length text ≡ length msg = form-length aegis128l key nonce ad msg text tag form in
         let k : end - start ≡ length msg = omega arith in
         sym (verdict-opened whole start end 0 _ shaped start-is end-is (sym parts-are) refl)
-        ∙ ap (λ (j : ℕ). record { answer = 0; start = start; length = j; input = recordOf key nonce ad msg tag }) k
+        ∙ ap (λ (j : ℕ). record { answer = 0; start = start; count = j; input = recordOf key nonce ad msg tag }) k
 
 -- ---- what seal writes makes such a record, for every message within the limits
 
@@ -226,7 +226,7 @@ module _ (key nonce ad msg out tagBuf : List ℕ) (done : Done aegis128l key non
 
   pub seal-makes-records : length ad ≤ adLimit → length msg ≤ textLimit
       → openRecordOf (recordOf key nonce ad sealedText sealedTag)
-      ≡ record { answer = 0; start = headSize + length ad; length = length msg; input = recordOf key nonce ad msg sealedTag }
+      ≡ record { answer = 0; start = headSize + length ad; count = length msg; input = recordOf key nonce ad msg sealedTag }
   seal-makes-records a t = sealed-record-opens key nonce ad sealedText sealedTag (fitting a t) msg form
 
 -- the witness: any message within the limit, under a key and a nonce that are neither all 00 nor all ff, makes a record that opens

@@ -20,10 +20,10 @@ pub open-record-unique : (l : List ℕ) (x y : Opened) (a b : List ℕ) → reco
     → (x ≡ y) × (a ≡ b)
 open-record-unique l x y a b e f =
     let p : recordLeft x a ≡ recordLeft y b = e ∙ sym f in
-    ((λ i. record { answer = (p i) .answer; start = (p i) .start; length = (p i) .length }), ap (λ (r : RecordLeft). r .input) p)
+    ((λ i. record { answer = (p i) .answer; start = (p i) .start; count = (p i) .count }), ap (λ (r : RecordLeft). r .input) p)
 
 pub reply-unique : (buf : List ℕ) (n : ℕ) (x y : Part) (a b : List ℕ) → replied x a ≡ replyOf buf n → replied y b ≡ replyOf buf n
     → (x ≡ y) × (a ≡ b)
 reply-unique buf n x y a b e f =
     let p : replied x a ≡ replied y b = e ∙ sym f in
-    ((λ i. record { start = (p i) .start; length = (p i) .length }), ap (λ (r : Replied). r .buf) p)
+    ((λ i. record { start = (p i) .start; count = (p i) .count }), ap (λ (r : Replied). r .buf) p)

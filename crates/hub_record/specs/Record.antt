@@ -82,7 +82,7 @@ shape n tag ad =
 pub record RecordLeft : Type 0 where
   pub answer : ℕ
   pub start : ℕ
-  pub length : ℕ
+  pub count : ℕ
   pub input : List ℕ
 
 -- these parts opened in place: no byte but the ciphertext's changes
@@ -93,11 +93,11 @@ openParts l a e =
     record { answer = r .answer; out = take a l ++ (r .out ++ drop e l) }
 
 abbrev pub refusedRecord : List ℕ → ℕ → RecordLeft
-refusedRecord l a = record { answer = a; start = 0; length = 0; input = l }
+refusedRecord l a = record { answer = a; start = 0; count = 0; input = l }
 
 -- 0: the plaintext stands where the ciphertext stood; 7: 0xaa stands there
 abbrev pub openedRecord : ℕ → ℕ → Left → RecordLeft
-openedRecord a e r = onDone (r .answer) (refusedRecord (r .out)) (record { answer = 0; start = a; length = e - a; input = r .out })
+openedRecord a e r = onDone (r .answer) (refusedRecord (r .out)) (record { answer = 0; start = a; count = e - a; input = r .out })
 
 -- 1 and 11: nothing is opened
 unfoldable pub openRecordOf : List ℕ → RecordLeft

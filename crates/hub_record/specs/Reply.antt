@@ -27,12 +27,12 @@ openedText a n l = line openedWord n ++ between a (a + n) l
 
 -- or "refused ", the number and a line feed
 unfoldable pub textOf : RecordLeft → List ℕ
-textOf r = onDone (r .answer) (line refusedWord) (openedText (r .start) (r .length) (r .input))
+textOf r = onDone (r .answer) (line refusedWord) (openedText (r .start) (r .count) (r .input))
 
 -- where the reply stands, and every byte of the buffer
 pub record Replied : Type 0 where
   pub start : ℕ
-  pub length : ℕ
+  pub count : ℕ
   pub buf : List ℕ
 
 -- a text written over a buffer so that it ends at place e, or else starts the buffer; where there is no room for it, nothing is written
@@ -41,13 +41,13 @@ placed t e buf =
     cond (leb (length t) (length buf))
     (record {
       start = e - length t;
-      length = length t;
+      count = length t;
       buf = take (e - length t) buf ++ (t ++ drop (e - length t + length t) buf);
     })
-    (record { start = 0; length = 0; buf = buf })
+    (record { start = 0; count = 0; buf = buf })
 
 -- the reply to the first n bytes of a buffer ends where their plaintext ends
 unfoldable pub replyOf : List ℕ → ℕ → Replied
 replyOf buf n =
     let r = openRecordOf (take n buf) in
-    placed (textOf r) (r .start + r .length) (r .input ++ drop n buf)
+    placed (textOf r) (r .start + r .count) (r .input ++ drop n buf)

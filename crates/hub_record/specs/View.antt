@@ -8,7 +8,7 @@ use Rattle.hub_record.specs.Record.{RecordLeft}
 use Rattle.hub_record.specs.Reply.{Replied}
 
 abbrev pub recordLeft : Opened → List ℕ → RecordLeft
-recordLeft r input = record { answer = r .answer; start = r .start; length = r .length; input = input }
+recordLeft r input = record { answer = r .answer; start = r .start; count = r .count; input = input }
 
 abbrev pub replied : Part → List ℕ → Replied
-replied r buf = record { start = r .start; length = r .length; buf = buf }
+replied r buf = record { start = r .start; count = r .count; buf = buf }

@@ -11,7 +11,7 @@ use crate::shape::shape;
 pub struct Opened {
     pub answer: u8,
     pub start: usize,
-    pub length: usize,
+    pub count: usize,
 }
 
 // What the head says: the tag size and the AD length.
@@ -80,7 +80,7 @@ pub fn open_record(input: &mut [u8]) -> Opened
         return Opened {
             answer: refused,
             start: 0,
-            length: 0,
+            count: 0,
         };
     }
     let a = crate::HEAD + h.ad as usize;
@@ -90,12 +90,12 @@ pub fn open_record(input: &mut [u8]) -> Opened
         return Opened {
             answer: verdict,
             start: 0,
-            length: 0,
+            count: 0,
         };
     }
     Opened {
         answer: answers::DONE,
         start: a,
-        length: e - a,
+        count: e - a,
     }
 }

@@ -10,7 +10,7 @@ use crate::opening::open_record;
 // Where the reply stands in the buffer.
 pub struct Part {
     pub start: usize,
-    pub length: usize,
+    pub count: usize,
 }
 
 // At the start of the buffer; nothing where there is no room.
@@ -21,16 +21,10 @@ fn refuse(answer: u8, buf: &mut [u8]) -> Part
     let from = line(b"refused ", answer as usize, &mut text);
     let k = 32 - from;
     if buf.len() < k {
-        return Part {
-            start: 0,
-            length: 0,
-        };
+        return Part { start: 0, count: 0 };
     }
     lent::put(&text[from..32], buf);
-    Part {
-        start: 0,
-        length: k,
-    }
+    Part { start: 0, count: k }
 }
 
 // Right before the plaintext, which has `count` bytes from `start` on.
@@ -45,7 +39,7 @@ fn announce(start: usize, count: usize, buf: &mut [u8]) -> Part
     lent::put(&text[from..32], &mut buf[at..start]);
     Part {
         start: at,
-        length: k + count,
+        count: k + count,
     }
 }
 
@@ -67,5 +61,5 @@ pub fn reply(buf: &mut [u8], n: usize) -> Part
     if r.answer != answers::DONE {
         return refuse(r.answer, buf);
     }
-    announce(r.start, r.length, buf)
+    announce(r.start, r.count, buf)
 }
