@@ -7,3 +7,4 @@ pub mod Computing
 pub mod Phases
 pub mod Vectors
 pub mod EmptyMac
+pub mod MacsDiffer
