@@ -1,5 +1,5 @@
--- The structs of the code say no more than the promises do: what the promises see of two outcomes is equal only where the outcomes are.
--- So two outcomes of a call that meet its promise are equal as structs too. An array of the code has its length; the list for it is asked to.
+-- The struct of the code says no more than the promises do: what the promises see of two sessions is equal only where the structs are.
+-- An array of the code has its length; the list for it is asked to.
 -- Assumes nothing.
 use Prim.Native.Nat.{ℕ}
 use native.Mathlib.Omega.{arith}
@@ -11,10 +11,10 @@ use Rattle.aes.specs.declared.AesBlock.{AesBlock}
 use Rattle.aegis128l.specs.Aegis128L.{Blocks}
 use Rattle.aegis128l.specs.View.{blocksOf}
 use Rattle.session.specs.declared.Session.{Session}
-use Rattle.session.specs.declared.Piece.{Piece}
 use Rattle.session.specs.declared.Finish.{Finish}
-use Rattle.session.specs.View.{sessionOf, handedOf}
+use Rattle.session.specs.View.{sessionOf}
 
+-- an opening finish, as the promises have it
 abbrev pub openedOf : Finish → List ℕ → promise.Opened Blocks
 openedOf r out = record {
   answer = r .opened .answer;
@@ -60,8 +60,3 @@ same-session s t hs ht e =
       room = e k .room;
       written = e k .written;
     }
-
-module _ (r q : Piece) (hr : length (r .session .blocks) ≡ 8) (hq : length (q .session .blocks) ≡ 8) where
-  )
-
-module _ (r q : Finish) (hr : length (r .session .blocks) ≡ 8) (hq : length (q .session .blocks) ≡ 8) where
