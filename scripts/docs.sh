@@ -57,11 +57,14 @@ wrong=$(
         [ -f "crates/$crate/must-fail/$name.edit" ] || echo "docs/PROMISES.md: $crate/$name is no edit"
     done
 
-    # lines of definitions
-    grep -oE '^\| crates/[^ ]+\.antt \| [0-9]+ \|' docs/THEOREMS.md | while read -r _ files _ lines _; do
+    # lines of definitions, without and with comments, imports and blank lines
+    grep -oE '^\| crates/[^ ]+\.antt \| [0-9]+ \| [0-9]+ \|' docs/THEOREMS.md | while read -r _ files _ bare _ all _; do
         # shellcheck disable=SC2086
-        there=$(ls $files | grep -v '/Lib\.antt$' | xargs cat | wc -l)
-        [ "$there" -eq "$lines" ] || echo "docs/THEOREMS.md: $files has $there lines, not $lines"
+        text=$(ls $files | grep -v '/Lib\.antt$' | xargs cat)
+        there=$(echo "$text" | wc -l)
+        [ "$there" -eq "$all" ] || echo "docs/THEOREMS.md: $files has $there lines, not $all"
+        there=$(echo "$text" | grep -cv '^ *--\|^ *use \|^ *$')
+        [ "$there" -eq "$bare" ] || echo "docs/THEOREMS.md: $files has $there lines without comments, not $bare"
     done
 
     # what nothing uses
