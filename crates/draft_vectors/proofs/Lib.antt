@@ -3,6 +3,7 @@
 --   Phases      start, absorbing and finalization in that form
 --   Vectors     the vectors hold
 --   EmptyMac    the MAC of no data, 01's and the draft's
+--   MacsDiffer  two inputs whose MACs differ
 pub mod Computing
 pub mod Phases
 pub mod Vectors

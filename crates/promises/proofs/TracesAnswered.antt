@@ -1,4 +1,4 @@
--- Any call, on any session whatever it holds, is answered, in one way. So there is a trace of any calls in any order (ExactlyMade.antt).
+-- Any call on any session, whatever it holds, is answered. So there is a trace of any calls in any order (ExactlyMade.antt).
 -- Assumes nothing.
 use mathlib.Core.Path.{_≡_, refl}
 use Rattle.promises.specs.Cipher.{Cipher, Mac}
@@ -7,7 +7,6 @@ use Rattle.promises.specs.Session as session
 use Rattle.promises.specs.Trace
 
 module _ {S : Type 0} (C : Cipher S) (M : Mac S) where
-  -- one call
   pub answered : (s : Session S) (q : Trace.Ask) → (c : Trace.Made) × (s′ : Session S) × (Trace.asked c ≡ q) × Trace.Met C M s c s′
   answered s (Trace.askSealPiece msg out) = let r = session.sealPiece C s msg out in (Trace.sealPiece msg out (r .answer) (r .out), r .session, refl, refl)
   answered s (Trace.askSealPieceInPlace buf) = let r = session.sealPieceInPlace C s buf in (Trace.sealPieceInPlace buf (r .answer) (r .out), r .session, refl, refl)

@@ -44,10 +44,10 @@ module _ (n : ℕ) (some : zero < n) where
   mixed b no-0 no-ff = record { not-00 = others b 0 no-0; not-ff = others b 0xff no-ff }
 
   pub some-key-mixed : Mixed (someKey n)
-  some-key-mixed = mixed 1 (λ e. omega arith) (λ e. omega arith)
+  some-key-mixed = mixed _ (λ e. omega arith) (λ e. omega arith)
 
   pub some-nonce-mixed : Mixed (someNonce n)
-  some-nonce-mixed = mixed 2 (λ e. omega arith) (λ e. omega arith)
+  some-nonce-mixed = mixed _ (λ e. omega arith) (λ e. omega arith)
 
 -- ---- the message
 

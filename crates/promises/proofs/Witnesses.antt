@@ -4,7 +4,7 @@
 -- Assumes nothing.
 use Prim.Native.Nat.{ℕ, zero, _+_, _-_, _≤_, _<_, zero-le}
 use mathlib.Core.Path.{_≡_, refl, sym, _∙_}
-use mathlib.Core.Logic.{inl, inr}
+use mathlib.Core.Logic.{_⊎_, inl, inr, _≢_}
 use mathlib.Core.List.{List, [], _∷_}
 use native.Mathlib.Nat.{le-refl}
 use native.Mathlib.Omega.{arith}
@@ -18,7 +18,7 @@ use Rattle.promises.specs.Allowed.{Allowed}
 use Rattle.promises.specs.OneShot.{onto, ciphertext, sealTag, macTag}
 use Rattle.promises.specs.Session.{Session, pick}
 use Rattle.promises.specs.AnyCall.{askSeal, askOpen, on}
-use Rattle.promises.specs.Trace.{Made, sealFinish, none, _▸_, Trace, at-start, made, askSealPiece, askMacPiece, askMacFinish}
+use Rattle.promises.specs.Trace.{Made, sealFinish, Calls, none, _▸_, Trace, at-start, made, askSealPiece, askMacPiece, askMacFinish}
 use Rattle.promises.specs.Interleaved.{Interleaving, nothing, and-then, Interleaved, not-yet, one-more}
 use Rattle.promises.specs.Demands.{Demand1, Demand2, Demand3, SealedAs, all-of, and-more}
 use Rattle.promises.proofs.Texts.{ciphertext-length, sealTag-length, macTag-length}
@@ -32,11 +32,13 @@ use Rattle.promises.proofs.WitnessMac as macs
 use Rattle.promises.proofs.WitnessKey.{someKey, someNonce, someData, firstPart, secondPart, someMessage}
 use Rattle.promises.proofs.WitnessKey.{Mixed, some-key-mixed, some-nonce-mixed, first-part-length, some-message-length, bytes-replicate}
 
--- what the fields say of the instances, one proof behind the other
-infixr 5 _also_
+-- What a field says of an instance, in the end. None of these is a function, so that a field which is brought to one has been given all that it takes.
 pub data Said : Type 1 where
-  no-more : Said
-  _also_ : {A : Type 0} → A → Said → Said
+  same : {A : Type 0} {x y : A} → x ≡ y → Said
+  differ : {A : Type 0} {x y : A} → x ≢ y → Said
+  one-of : {A B : Type 0} → A ⊎ B → Said
+  all-bytes : (xs : List ℕ) → Bytes xs → Said
+  traced : {S : Type 0} {C : Cipher S} {M : Mac S} {s₀ s : Session S} {cs : Calls} → Trace C M s₀ cs s → Said
 
 module _ {S : Type 0} (C : Cipher S) (M : Mac S) where
   -- two sessions whose calls take turns
@@ -122,7 +124,7 @@ module _ {S : Type 0} (C : Cipher S) (M : Mac S) (keyed : zero < C .size) (in-li
 
   -- ---- demand 1
 
-  pub said-1 : Demand1 C M → Said
+  pub said-1 : Demand1 C M → List Said
   said-1 d =
       let sealed = calls.sealed-met C M key nonce someData 16 fixed msg within msg (le-refl (length msg)) in
       let wrong = calls.refused-met C M key nonce someData 16 fixed msg within in
@@ -136,53 +138,56 @@ module _ {S : Type 0} (C : Cipher S) (M : Mac S) (keyed : zero < C .size) (in-li
       let copy = d .any-order (macing .maced .last) (askMacFinish (zeros 16) ∷ []) in
       let copy₂ = d .any-order (macing .maced .last) (askMacPiece msg ∷ askMacFinish (zeros 16) ∷ []) in
       let changed = openings.first-changed C M key nonce someData 16 fixed (unlike msg) opening some (unlike-first msg some) in
-      d .one-answer (askSeal key nonce someData msg msg (zeros 16)) 0 0 (onto ct msg, due) (onto ct msg, due) sealed sealed
-      also d .any-copy (macing .maced .trace) (copy .3)
-      also d .any-copy (macing .maced .trace) (copy₂ .3)
-      also d .any-sessions (turns .1)
-      also d .first-applies (askOpen key nonce someData ct (other due) (unlike msg)) 7 (onto (replicate (length ct) 0xaa) (unlike msg)) (wrong (unlike msg) room) 7
-      also d .refused (on (piece .0) (askSealPiece (0 ∷ secondPart) secondPart)) 9 (_, secondPart) (piece .2) (λ e. omega arith) (λ e. omega arith)
-      also d .ends (finish .0) (sealing .finished .last) (sealFinish (zeros 16) 0 due) (finish .2) refl
-      also d .over (later .trace) (inr (inr refl))
-      also d .sealing-record (sealing .sealed) (sealings.starts C M key nonce someData 16 fixed (sealing .sealed)) (sealing .going)
-      also d .opening-record (opening .opened) (openings.starts C M key nonce someData 16 fixed (unlike msg) (opening .opened)) (opening .going)
-      also d .mac-record (macing .maced) (macs.starts C M key nonce 16 (some-allowed [] zero-le) (macing .maced)) (macing .going)
-      also d .abort-sealing (sealing .aborted) (sealings.starts C M key nonce someData 16 fixed (sealing .aborted)) (sealing .going)
-      also d .abort-mac (macing .aborted) (macs.starts C M key nonce 16 (some-allowed [] zero-le) (macing .aborted)) (macing .going)
-      also d .abort-opening (opening .aborted .1) (openings.starts C M key nonce someData 16 fixed (unlike msg) (opening .aborted .1)) (opening .going) (opening .own)
-      also d .other-room key nonce someData 16 (length (0 ∷ msg)) (other-room .first) (other-room .start-met) (other-room .trace) (other-room .lent-other)
-      also d .wrong-tag key nonce someData ct (other due) (unlike msg) 7 _ (wrong (unlike msg) room) refl
-      also d .wrong-tag-in-place key nonce someData ct (other due) 7 _ (wrong ct (le-refl (length ct))) refl
-      also d .session-wrong-tag later (inl (inr refl)) (and-more _ (and-more _ all-of)) (opening .opened) 0 changed
-      also d .session-wrong-tag (opening .aborted .1) (inr refl) (and-more _ all-of) (opening .opened) 0 changed
-      also d .session-other-bytes later (inl (inr refl))
-      also d .session-erased later (inl (inr refl))
-      also no-more
+      let first = d .first-applies (askOpen key nonce someData ct (other due) (unlike msg)) 7 (onto (replicate (length ct) 0xaa) (unlike msg)) (wrong (unlike msg) room) 7 in
+      same (d .one-answer (askSeal key nonce someData msg msg (zeros 16)) 0 0 (onto ct msg, due) (onto ct msg, due) sealed sealed .0) ∷
+      traced (d .any-copy (macing .maced .trace) (copy .3)) ∷
+      traced (d .any-copy (macing .maced .trace) (copy₂ .3)) ∷
+      traced (d .any-sessions (turns .1) 0) ∷
+      traced (d .any-sessions (turns .1) 1) ∷
+      same (first .1 (first .0 refl)) ∷
+      same (d .refused (on (piece .0) (askSealPiece (0 ∷ secondPart) secondPart)) 9 (_, secondPart) (piece .2) (λ e. omega arith) (λ e. omega arith)) ∷
+      same (d .ends (finish .0) (sealing .finished .last) (sealFinish (zeros 16) 0 due) (finish .2) refl) ∷
+      same (d .over (later .trace) (inr (inr refl)) .0) ∷
+      same (d .sealing-record (sealing .sealed) (sealings.starts C M key nonce someData 16 fixed (sealing .sealed)) (sealing .going) .msg-length-is) ∷
+      same (d .opening-record (opening .opened) (openings.starts C M key nonce someData 16 fixed (unlike msg) (opening .opened)) (opening .going) .msg-length-is) ∷
+      same (d .mac-record (macing .maced) (macs.starts C M key nonce 16 (some-allowed [] zero-le) (macing .maced)) (macing .going) .msg-length-is) ∷
+      same (d .abort-sealing (sealing .aborted) (sealings.starts C M key nonce someData 16 fixed (sealing .aborted)) (sealing .going) .0) ∷
+      same (d .abort-mac (macing .aborted) (macs.starts C M key nonce 16 (some-allowed [] zero-le) (macing .aborted)) (macing .going) .0) ∷
+      same (d .abort-opening (opening .aborted .1) (openings.starts C M key nonce someData 16 fixed (unlike msg) (opening .aborted .1)) (opening .going) (opening .own)) ∷
+      same (d .other-room key nonce someData 16 (length (0 ∷ msg)) (other-room .first) (other-room .start-met) (other-room .trace) (other-room .lent-other) .0) ∷
+      same (d .wrong-tag key nonce someData ct (other due) (unlike msg) 7 _ (wrong (unlike msg) room) refl) ∷
+      same (d .wrong-tag-in-place key nonce someData ct (other due) 7 _ (wrong ct (le-refl (length ct))) refl) ∷
+      same (d .session-wrong-tag later (inl (inr refl)) (and-more _ (and-more _ all-of)) (opening .opened) 0 changed) ∷
+      same (d .session-wrong-tag (opening .aborted .1) (inr refl) (and-more _ all-of) (opening .opened) 0 changed) ∷
+      one-of (d .session-other-bytes later (inl (inr refl)) 0) ∷
+      same (d .session-erased later (inl (inr refl)) .1) ∷
+      []
 
   -- ---- demand 2
 
-  pub said-2 : Demand2 C M → Said
+  pub said-2 : Demand2 C M → List Said
   said-2 d =
       let sealed = calls.sealed-met C M key nonce someData 16 fixed msg within msg (le-refl (length msg)) in
       let opened = calls.opened-met C M key nonce someData 16 fixed msg within ct (le-refl (length ct)) in
       let streamed = calls.streamed C M key nonce someData 16 fixed msg in
       let xored = calls.xored C M key nonce someData 16 fixed in
       let maced = calls.maced C M key nonce someData 16 fixed in
-      d .seal-is-encrypt key nonce someData msg msg (zeros 16) 0 (onto ct msg) due sealed refl
-      also d .open-is-decrypt key nonce someData ct due ct 0 (onto msg ct) opened refl
-      also d .stream-is-stream key nonce msg 0 _ streamed refl
-      also d .stream-xor-is-xor key nonce msg 0 _ (xored msg) refl
-      also d .stream-xor-back key nonce msg 0 _ 0 _ (xored msg) refl (xored _)
-      also d .mac-is-01s key nonce msg (zeros 16) 0 _ (maced msg within) refl some
-      also d .mac-of-nothing key nonce (zeros 16) 0 _ (maced [] zero-le) refl
-      also d .sealed key nonce someData 16 fixed (calls.sealed C M key nonce someData 16 fixed msg within msg (le-refl (length msg)) .0)
-      also d .streamed key nonce (fixed .key-size) (fixed .nonce-size) msg 0 _ .0 streamed
-      also d .maced key nonce 16 (some-allowed [] zero-le) msg (zeros 16) 0 _ (maced msg within) refl within
-      also no-more
+      same (d .seal-is-encrypt key nonce someData msg msg (zeros 16) 0 (onto ct msg) due sealed refl .0) ∷
+      same (d .open-is-decrypt key nonce someData ct due ct 0 (onto msg ct) opened refl .0) ∷
+      same (d .stream-is-stream key nonce msg 0 _ streamed refl) ∷
+      same (d .stream-xor-is-xor key nonce msg 0 _ (xored msg) refl) ∷
+      same (d .stream-xor-back key nonce msg 0 _ 0 _ (xored msg) refl (xored _) .1) ∷
+      same (d .mac-is-01s key nonce msg (zeros 16) 0 _ (maced msg within) refl some) ∷
+      same (d .mac-of-nothing key nonce (zeros 16) 0 _ (maced [] zero-le) refl) ∷
+      same (d .sealed key nonce someData 16 fixed (calls.sealed C M key nonce someData 16 fixed msg within msg (le-refl (length msg)) .0)) ∷
+      same (d .streamed key nonce (fixed .key-size) (fixed .nonce-size) msg 0 _ .0 streamed) ∷
+      same (d .streamed key nonce (fixed .key-size) (fixed .nonce-size) msg 0 _ .1 (xored msg)) ∷
+      same (d .maced key nonce 16 (some-allowed [] zero-le) msg (zeros 16) 0 _ (maced msg within) refl within) ∷
+      []
 
   -- ---- demand 3
 
-  pub said-3 : Demand3 C M key nonce someData 16 → Said
+  pub said-3 : Demand3 C M key nonce someData 16 → List Said
   said-3 d =
       let room : length ct ≤ length (unlike msg) = omega (arith, ct-long, unlike-room msg) in
       let own : length due ≡ 16 = sealTag-length C key nonce someData msg 16 refl in
@@ -199,32 +204,38 @@ module _ {S : Type 0} (C : Cipher S) (M : Mac S) (keyed : zero < C .size) (in-li
       let bn = bytes-replicate size 2 (lit< tt) in
       let ba : Bytes someData = (lit< tt, (lit< tt, (lit< tt, tt))) in
       let bm = bytes-append p secondPart (bytes-replicate (machine .rate - 1) 6 (lit< tt)) (lit< tt, (lit< tt, tt)) in
-      let mac-own : length (macTag C M key nonce msg 16) ≡ 16 = macTag-length C M key nonce msg 16 refl in
-      d .has-form msg within
-      also d .one-form msg ct due ct due form form
-      also d .differ msg ct due (other msg) _ _ form form₂ (λ e. other-differs msg some (sym e))
-      also d .accepts (o .0)
-      also d .yields (o .0) msg o-form
-      also d .refuses (q .0) .0 (q .3)
-      also d .verdict (q .0)
-      also d .one-tag (o .0) (o₂ .0) (o .3) (o₂ .3) (o .1 ∙ sym (o₂ .1))
-      also d .seal-in-place msg (zeros 16) 0 _ due sealed refl within
-      also d .open-in-place ct due 0 _ opened own (rw ct-long within)
-      also d .bytes-sealed bk bn ba msg ct due form bm
-      also d .bytes-opened bk bn ba msg ct due form (d .bytes-sealed bk bn ba msg ct due form bm .0)
-      also d .seal-so-far (sealing .sealed)
-      also d .open-so-far (opening .opened) refl
-      also d .seal-finish (sealing .finished) (sealing .going) refl
-      also d .mac-finish (macing .finished) (macing .going) refl
-      also d .open-finish (opening .released .2) (opening .going) (opening .own) (o .0) (o .1 ∙ sym (opening .took)) (o .2)
-      also d .open-finish (opening .refused .2) (opening .going) (opening .own) (q .0) (q .1 ∙ sym (opening .took)) (q .2)
-      also d .open-finish-accepts (opening .released .2) (opening .going) own (opening .own)
-      also d .open-finish-yields (opening .released .2) refl
-      also d .mac-check (macing .checked) (macing .going) mac-own 0 (rw (macing .took) (calls.checked C M key nonce someData 16 fixed msg within))
-      also d .mac-accepts msg (zeros 16) 0 _ (calls.maced C M key nonce someData 16 fixed msg within) refl within _ 0
-      (calls.checked C M key nonce someData 16 fixed msg within) mac-own
-      also d .recut-seals (sealing .finished) refl (whole .finished) refl (sealing .took)
-      also d .recut-differ (sealing .sealed) (another .sealed) (λ e. other-differs msg some (sym e ∙ sealing .took))
-      also d .recut-opens (sealing .finished) refl (opening .released .2) (opening .going) (opening .own) (opening .took ∙ sym (sealing .gave)) refl
-      also d .joined-opens (sealing .finished) refl (o .0) (o .1 ∙ sym (sealing .gave)) (o .2)
-      also no-more
+      let maced = calls.maced C M key nonce someData 16 fixed in
+      let checked = calls.checked C M key nonce someData 16 fixed msg within in
+      let check-refused = calls.check-refused C M key nonce someData 16 fixed msg within in
+      let mac = macTag C M key nonce msg 16 in
+      let mac-own : length mac ≡ 16 = macTag-length C M key nonce msg 16 refl in
+      same (d .has-form msg within .2 .as-long) ∷
+      same (d .one-form msg ct due ct due form form .0) ∷
+      differ (d .differ msg ct due (other msg) _ _ form form₂ (λ e. other-differs msg some (sym e))) ∷
+      same (d .accepts (o .0) .0 (o .3) .1 .as-long) ∷
+      same (d .yields (o .0) msg o-form .1) ∷
+      same (d .refuses (q .0) .1 (d .refuses (q .0) .0 (q .3))) ∷
+      one-of (d .verdict (o .0)) ∷
+      one-of (d .verdict (q .0)) ∷
+      same (d .one-tag (o .0) (o₂ .0) (o .3) (o₂ .3) (o .1 ∙ sym (o₂ .1))) ∷
+      same (d .seal-in-place msg (zeros 16) 0 _ due sealed refl within .1 .as-long) ∷
+      same (d .open-in-place ct due 0 _ opened own (rw ct-long within) .1 msg form) ∷
+      all-bytes ct (d .bytes-sealed bk bn ba msg ct due form bm .0) ∷
+      all-bytes msg (d .bytes-opened bk bn ba msg ct due form (d .bytes-sealed bk bn ba msg ct due form bm .0)) ∷
+      same (d .seal-so-far (sealing .sealed)) ∷
+      same (d .open-so-far (opening .opened) refl) ∷
+      same (d .seal-finish (sealing .finished) (sealing .going) refl .1 .as-long) ∷
+      same (d .mac-finish (macing .finished) (macing .going) refl .1 (zeros 16) 0 mac (rw (macing .took) (maced msg within)) refl .1) ∷
+      same (d .open-finish (opening .released .2) (opening .going) (opening .own) (o .0) (o .1 ∙ sym (opening .took)) (o .2) .1 refl .1) ∷
+      same (d .open-finish (opening .refused .2) (opening .going) (opening .own) (q .0) (q .1 ∙ sym (opening .took)) (q .2) .0) ∷
+      same (d .open-finish-accepts (opening .released .2) (opening .going) own (opening .own) .0 refl .1 .as-long) ∷
+      same (d .open-finish-yields (opening .released .2) refl .3) ∷
+      same (d .mac-check (macing .checked) (macing .going) mac-own 0 (rw (macing .took) checked)) ∷
+      same (d .mac-check (macing .refused) (macing .going) (other-length mac ∙ mac-own) 7 (rw (macing .took) check-refused)) ∷
+      same (d .mac-accepts msg (zeros 16) 0 _ (maced msg within) refl within mac 0 checked mac-own .0 .0 refl) ∷
+      one-of (d .mac-accepts msg (zeros 16) 0 _ (maced msg within) refl within (other mac) 7 check-refused (other-length mac ∙ mac-own) .1) ∷
+      same (d .recut-seals (sealing .finished) refl (whole .finished) refl (sealing .took) .1) ∷
+      differ (d .recut-differ (sealing .sealed) (another .sealed) (λ e. other-differs msg some (sym e ∙ sealing .took))) ∷
+      same (d .recut-opens (sealing .finished) refl (opening .released .2) (opening .going) (opening .own) (opening .took ∙ sym (sealing .gave)) refl .2) ∷
+      same (d .joined-opens (sealing .finished) refl (o .0) (o .1 ∙ sym (sealing .gave)) (o .2) .1) ∷
+      []

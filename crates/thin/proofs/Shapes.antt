@@ -61,7 +61,7 @@ module _ (D : Handing) where
 
   -- ---- the starts: nothing is done before the call
 
-  ready-as-is : (τs : List Ty) {M : Type 1} (𝓤 : URA M) (H : Heap 𝓤) (A : Atoms 𝓤) (W : Given 𝓤 H A) (C : Calls 𝓤 H) (Λ : Loops 𝓤 H) (b o : ℕ) (h : D .lent .type .D)
+  pub ready-as-is : (τs : List Ty) {M : Type 1} (𝓤 : URA M) (H : Heap 𝓤) (A : Atoms 𝓤) (W : Given 𝓤 H A) (C : Calls 𝓤 H) (Λ : Loops 𝓤 H) (b o : ℕ) (h : D .lent .type .D)
       (vs : Vs τs) (l₀ l₁ : ℕ) (bs : Bs τs) (lᵣ : ℕ) (ds : Bs []) {passed : List Val} → passed ≡ listed τs vs → Spots 𝓤 H (frame-of D τs [] 𝓤 H l₀ l₁ bs lᵣ ds) 2 τs bs
       → _≡_ {A = Spot 𝓤 H} (spotOf 𝓤 H (frame-of D τs [] 𝓤 H l₀ l₁ bs lᵣ ds) (past 2 τs)) (pair-of D, lᵣ, 0)
       → Ready D τs [] (λ c. c) (copies 2 τs) W C Λ b o h vs passed l₀ l₁ bs lᵣ ds
@@ -176,7 +176,7 @@ module _ (D : Handing) where
     abbrev copy-of : Typed cell
     copy-of = (value-of (D .lent) h, value-typed (D .lent) 𝓤 H A W h was)
 
-    ready-read : (vs : Vs (read-ty 1 ∷ [])) (l₀ l₁ : ℕ) (bs : Bs (read-ty 1 ∷ [])) (lᵣ : ℕ) (ds : Bs (cell ∷ []))
+    pub ready-read : (vs : Vs (read-ty 1 ∷ [])) (l₀ l₁ : ℕ) (bs : Bs (read-ty 1 ∷ [])) (lᵣ : ℕ) (ds : Bs (cell ∷ []))
         → Ready D (read-ty 1 ∷ []) (cell ∷ []) (copied 4) (copy (place 4 []) ∷ copy (place 2 []) ∷ []) W C Λ b o h vs
         (value-of (D .lent) h ∷ vs .0 .0 ∷ []) l₀ l₁ bs lᵣ ds
     ready-read vs l₀ l₁ bs lᵣ ds = record {
@@ -196,7 +196,7 @@ module _ (D : Handing) where
       abbrev filled-with : Vs temps
       filled-with = (copy-of, ((vptr (y .ptr .0) (y .ptr .1), (tt, tt)), (slice-typed erased mut y room, tt)))
 
-      ready-write : (l₀ l₁ : ℕ) (bs : Bs (written-ty 1 ∷ [])) (lᵣ : ℕ) (ds : Bs temps)
+      pub ready-write : (l₀ l₁ : ℕ) (bs : Bs (written-ty 1 ∷ [])) (lᵣ : ℕ) (ds : Bs temps)
           → Ready D (written-ty 1 ∷ []) temps (λ c. copied 4 (lent-on 2 5 6 c)) (copy (place 4 []) ∷ copy (place 6 []) ∷ []) W C Λ b o h
           (slice-typed (named 1) mut y room, tt) (value-of (D .lent) h ∷ only (slice-vals y) ∷ []) l₀ l₁ bs lᵣ ds
       ready-write l₀ l₁ bs lᵣ ds = record {
@@ -217,7 +217,7 @@ module _ (D : Handing) where
       }
 
       -- the same behind a slice that is read
-      ready-read-write : (v : Typed (read-ty 1)) (l₀ l₁ : ℕ) (bs : Bs (read-ty 1 ∷ written-ty 2 ∷ [])) (lᵣ : ℕ) (ds : Bs temps)
+      pub ready-read-write : (v : Typed (read-ty 1)) (l₀ l₁ : ℕ) (bs : Bs (read-ty 1 ∷ written-ty 2 ∷ [])) (lᵣ : ℕ) (ds : Bs temps)
           → Ready D (read-ty 1 ∷ written-ty 2 ∷ []) temps (λ c. copied 5 (lent-on 3 6 7 c)) (copy (place 5 []) ∷ copy (place 2 []) ∷ copy (place 7 []) ∷ []) W C Λ b o h
           (v, (slice-typed (named 2) mut y room, tt)) (value-of (D .lent) h ∷ v .0 ∷ only (slice-vals y) ∷ []) l₀ l₁ bs lᵣ ds
       ready-read-write v l₀ l₁ bs lᵣ ds = record {
