@@ -35,7 +35,7 @@ pub data AnyCall (S : Type 0) : Type 0 where
   askMacStart : (key nonce : List ℕ) (size : ℕ) → AnyCall S
   on : Session S → Ask → AnyCall S
 
--- what it leaves beside its answer: the session, the buffers that it is lent to write
+-- what it leaves beside its answer: a count, the session, the buffers that it is lent to write
 abbrev pub Leaves : {S : Type 0} → AnyCall S → Type 0
 Leaves (askSeal key nonce ad msg out tag) = List ℕ × List ℕ
 Leaves (askSealInPlace key nonce ad buf tag) = List ℕ × List ℕ
@@ -90,7 +90,7 @@ module _ {S : Type 0} (C : Cipher S) (M : Mac S) where
   CallMet (on s (askMacFinishCheck tag)) a s′ = MacFinishCheckMet C M s tag a s′
   CallMet (on s (askAbort plain)) a (s′, plain′) = AbortMet C s plain a s′ plain′
 
-  -- its order of refusals. Where a call is lent a tag to check, 7 comes last: it is the tag that is due
+  -- its order of refusals, each with the test that must pass. Where a call checks a tag, 7 comes last: the tag is the one that is due
   abbrev pub rungsOf : AnyCall S → List Rung
   -- seal and open: 1, 2, 3, 4, 5, 6, then 7; in place, the room is the buffer itself
   rungsOf (askSeal key nonce ad msg out tag) = oneShotRungs size (length tag) (length key) (length nonce) (length ad) (length msg) (length out)
@@ -127,7 +127,7 @@ module _ {S : Type 0} (C : Cipher S) (M : Mac S) where
   -- abort: 8, then 10 for an opener
   rungsOf (on s (askAbort plain)) = abortRungs (abortLive C s) (ifOpening s (eqb (length plain) (s .room)) true)
 
-  -- what a refusal leaves, but 7: what the call was lent. A start hands back a session that is over, and a number is 0
+  -- what every refusal but 7 leaves: all as it was lent. A refused start hands back a session that is over, and a refused finish the count 0
   abbrev pub untouched : (c : AnyCall S) → Leaves c
   untouched (askSeal key nonce ad msg out tag) = (out, tag)
   untouched (askSealInPlace key nonce ad buf tag) = (buf, tag)
