@@ -1,6 +1,6 @@
 # What nothing uses. Given docs/THEOREMS.md and then all .antt and .rt files of the crates, it prints a line for each
 #   - public name of specs/ and proofs/ that no other file uses, that docs/THEOREMS.md does not have in backquotes, and that no public statement of
-#     its own file speaks of,
+#     its own file speaks of, nor the body of an abbreviation, which is read wherever that is used,
 #   - other name there that its own file never uses,
 #   - name that a file imports, or takes from a record that it opens, and never uses,
 #   - public function that nothing calls and that is not exported.
@@ -75,7 +75,7 @@ FILENAME ~ /[.]md$/ {
 
 # ---- the code: comments go, and an import over several lines becomes one
 
-FNR == 1 { pending = ""; fields = public_head = -1 }
+FNR == 1 { pending = ""; fields = public_head = spelt_out = -1 }
 {
     if (FILENAME ~ /[.]rt$/) { sub(/[/][/].*/, ""); gsub(/[!&]/, " ") }
     else if (match($0, /(^|[ \t])--([ \t-]|$)/)) $0 = substr($0, 1, RSTART - 1)
@@ -104,6 +104,9 @@ FNR == 1 { pending = ""; fields = public_head = -1 }
     name = words[at]
 
     if (indent <= public_head) public_head = -1
+    if (indent <= spelt_out) spelt_out = -1
+    if (/^ *abbrev pub /) abbreviation[FILENAME, name, indent] = 1
+    if ((FILENAME, name, indent) in abbreviation) spelt_out = indent
     if (indent <= fields) fields = -1
     if (FILENAME ~ /[.]antt$/ && fields < 0) {
         type = /^ *(pub )?(record|data) [^{]/
@@ -122,7 +125,7 @@ FNR == 1 { pending = ""; fields = public_head = -1 }
         called[++functions] = FILENAME SUBSEP name
         defines[FILENAME, name, indent] = 1
     }
-    stated_here = public_head >= 0 || start == "module"
+    stated_here = public_head >= 0 || spelt_out >= 0 || start == "module"
     for (i = 1; i <= count; i++) {
         n = split(words[i], parts, /[.]|::/)
         for (p = 1; p <= n; p++) {
