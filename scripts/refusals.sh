@@ -1,16 +1,15 @@
 #!/bin/sh
-# Looks at why each must-fail edit was refused, in the logs that rt ci leaves: a fact must fail. Where the proof names something that is no longer
+# Looks at why each must-fail edit was refused, in the logs that rt ci leaves: a fact must fail. Where an error is that a name is no longer
 # there, the edit changed only the shape of what is to be proved, and shows nothing.
 set -eu
 cd "$(dirname "$0")/.."
-count=0
+count=0 wrong=0
 for log in target/must-fail/*/*/.log; do
     [ -f "$log" ] || { echo 'refusals: there are no logs of must-fail edits: rt ci leaves them in target/must-fail' >&2; exit 1; }
     count=$((count + 1))
-    if grep -q 'that can be named from here\|has no field\|is not in scope' "$log"; then
-        echo "refusals: ${log%/.log} was refused for its shape:" >&2
-        grep -m 1 -B 1 'that can be named from here\|has no field\|is not in scope' "$log" | cut -c1-300 >&2
-        exit 1
-    fi
+    shape=$(grep ': error: .*\(that can be named from here\|has no field\|is not in scope\)' "$log" | head -n 1 | cut -c1-300)
+    [ -z "$shape" ] || { printf 'refusals: %s was refused for its shape:\n%s\n' "${log%/.log}" "$shape" >&2; wrong=1; }
+    grep -q ': error: ' "$log" || { echo "refusals: ${log%/.log} has no error in its log" >&2; wrong=1; }
 done
+[ "$wrong" -eq 0 ] || exit 1
 echo "each of $count wrong programs is refused because a fact fails"

@@ -36,6 +36,7 @@ echo "  $crates crates, then $edits edits; build/rt-ci.txt has all that is said"
 tail -n 1 "$verdict" | grep -Eqx '[0-9]+ passed, 0 failed' || failed "rt ci did not end with 'N passed, 0 failed'"
 
 step 'why the edits are refused' sh scripts/refusals.sh
+step 'the contracts of the exported functions' sh scripts/contracts.sh
 step 'the archive for C and Rust' sh scripts/lib.sh
 step 'the archive for the other processor' sh scripts/archives.sh
 step 'the hub program' sh scripts/hub.sh
