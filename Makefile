@@ -13,7 +13,7 @@ export RT PREFIX DESTDIR PROCESSOR
 ## make uninstall  takes it away again
 ## make examples   builds the examples in C and Rust over the archive and runs them
 ## make compare    compares the archive and the program with the Rust
-## make bench      measures the speed beside the Rust's
+## make bench      measures speed and instructions beside the Rust's
 ## make test       all that CI runs; its last line is 'N passed, 0 failed' (20 to 30 minutes on two cores)
 ## make fmt        formats the files of crates/
 ## make clean      removes build/ and target/
@@ -50,6 +50,8 @@ compare: native lib hub
 
 bench: native lib
 	@compare/run.sh bench
+	@compare/run.sh instructions
+	@compare/run.sh instructions
 
 fmt: toolchain
 	$(RT) fmt

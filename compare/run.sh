@@ -54,4 +54,16 @@ done
 export WODZERIM_LIB_DIR="$top/build" CARGO_TARGET_DIR="$top/build/cargo"
 echo 'compare: builds the Rust and the comparison'
 env -u RUSTFLAGS -u CARGO_ENCODED_RUSTFLAGS cargo build --manifest-path "$top/compare/Cargo.toml" --release --offline
-exec "$top/build/cargo/release/compare" "$@"
+compare=$top/build/cargo/release/compare
+[ "$1" = instructions ] || exec "$compare" "$@"
+
+# Instructions do not depend on the load: those of sealing 64 KiB less those of sealing nothing, for a byte.
+command -v valgrind >/dev/null || missing "valgrind is not on the path (Debian's package valgrind has it)"
+count() { # SIDE BYTES
+    valgrind --tool=callgrind --callgrind-out-file=/dev/null "$compare" seal "$1" "$2" 2>&1 | sed -n 's/.*Collected : //p'
+}
+for side in ours plain table; do
+    long=$(count "$side" 65536) none=$(count "$side" 0)
+    [ -n "$long" ] && [ -n "$none" ] || { echo "compare: valgrind counted nothing for $side" >&2; exit 1; }
+    awk -v side="$side" -v long="$long" -v none="$none" 'BEGIN { printf "%-6s %6.1f instructions a byte\n", side, (long - none) / 65536 }'
+done

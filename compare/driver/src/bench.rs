@@ -29,6 +29,19 @@ fn rust_table(buf: &mut [u8]) {
 const SIDES: [(&str, fn(&mut [u8])); 3] =
     [("Wodzerim (build/libwodzerim.a)", ours), ("the Rust, plain round", rust_plain), ("the Rust, table round", rust_table)];
 
+/// Seals so many zero bytes once, for a count of instructions.
+pub fn seal_once(side: &str, bytes: &str) -> Result<(), String> {
+    let seal = match side {
+        "ours" => ours,
+        "plain" => rust_plain,
+        "table" => rust_table,
+        _ => return Err(format!("seal: '{side}' is none of ours, plain and table")),
+    };
+    let length: usize = bytes.parse().map_err(|_| format!("seal: '{bytes}' is no number of bytes"))?;
+    seal(&mut vec![0; length]);
+    Ok(())
+}
+
 /// Millions of bytes a second, in the fastest turn.
 pub fn run() {
     let mut best = [f64::MAX; SIDES.len()];

@@ -16,6 +16,7 @@ mod standins;
 
 use std::path::Path;
 use std::process::ExitCode;
+use std::time::Instant;
 
 use difference::Difference;
 
@@ -27,6 +28,8 @@ const USAGE: &str = "usage: compare COMMAND
   replay LIST         the recorded answers through all sides
   all PROGRAM LIST    all of these
   bench               sealing 64 KiB in place, against the Rust in one run
+  instructions        the instructions of it, a byte and a call (under valgrind)
+  seal SIDE BYTES     seals so many bytes once; SIDE is ours, plain or table
   record LIST VECTORS writes the recorded answers; VECTORS is the folder of the published ones
   sample FILE         writes the hub record of examples/";
 
@@ -42,8 +45,10 @@ fn sample() -> hub::Record {
 
 fn compare(arguments: &[&str]) -> Result<(), Difference> {
     let mut total = 0;
+    let mut begin = Instant::now();
     let mut say = |what: &str, count: u64| {
-        println!("{count:>9} equal  {what}");
+        println!("{count:>9} equal  {what} ({:.0} s)", begin.elapsed().as_secs_f64());
+        begin = Instant::now();
         total += if what.starts_with(' ') { 0 } else { count };
     };
     match arguments {
@@ -64,6 +69,7 @@ fn compare(arguments: &[&str]) -> Result<(), Difference> {
             bench::run();
             return Ok(());
         }
+        ["seal", side, bytes] => return bench::seal_once(side, bytes).map_err(Difference),
         ["record", list, vectors] => return recorded::write(Path::new(list), Path::new(vectors)).map_err(Difference),
         ["sample", file] => return std::fs::write(file, sample().sealed()).map_err(|e| Difference(format!("{file}: {e}"))),
         _ => return Err(Difference(USAGE.into())),

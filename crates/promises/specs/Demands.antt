@@ -95,7 +95,7 @@ pub record Demand2 {S : Type 0} (C : Cipher S) (M : Mac S) : Type 0 where
       → let state = draftAbsorb (C .machine) (C .init key nonce) ad in
       (out′ ≡ onto (draftDecrypt (C .machine) state ct) out)
       × (tag ≡ C .tag (draftDecryptState (C .machine) state ct) (length ad) (length ct) (length tag))
-  -- stream is its Stream: what zeros are encrypted to, with no associated data; and stream xor is the message under it, of which it is undone
+  -- stream is its Stream: what zeros are encrypted to, with no associated data; stream xor is the message xored with it, and undoes itself
   pub stream-is-stream : (key nonce out : List ℕ) (r : ℕ) (out′ : List ℕ) → StreamMet C key nonce out r out′ → r ≡ 0
       → out′ ≡ draftEncrypt (C .machine) (C .init key nonce) (zeros (length out))
   pub stream-xor-is-xor : (key nonce buf : List ℕ) (r : ℕ) (buf′ : List ℕ) → StreamXorMet C key nonce buf r buf′ → r ≡ 0

@@ -1,4 +1,5 @@
--- A trace: calls that were made on a session, each of which met its contract and continued the session that the last one left. All that
+-- A trace: calls that were made on a session, each of which met its contract and continued the session that the last one left. A start writes
+-- its session whatever that held, so it begins another trace. All that
 -- the theorems on traces speak of can be seen: what each call was lent, what it answered, and what it left in the buffers lent (with a prime).
 -- Assumes nothing.
 use Prim.Native.Nat.{ℕ}
