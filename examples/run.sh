@@ -26,7 +26,7 @@ if have "$cc" C; then
     for source in "$top"/examples/c/*.c; do
         program=$out/$(basename "$source" .c)
         rm -f "$program"
-        "$cc" -std=c99 -Wall -Wextra -Wpedantic -Werror -O2 -I "$top/include" "$source" "$top/build/libwodzerim.a" -o "$program" ||
+        "$cc" -std=c11 -Wall -Wextra -Wpedantic -Werror -O2 -I "$top/include" "$source" "$top/build/libwodzerim.a" -o "$program" ||
             fail "$source does not build"
         echo "examples/c/${source##*/}:"
         "$program" || fail "$source failed"
