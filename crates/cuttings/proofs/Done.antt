@@ -12,10 +12,13 @@ use Rattle.answers.specs.Answers as answers
 use Rattle.lent.specs.Lent.{same}
 use Rattle.lent.proofs.Same.{same-equal}
 use Rattle.promises.specs.Cipher.{Cipher, Mac}
-use Rattle.promises.specs.OneShot.{onDone, keyed}
-use Rattle.promises.specs.Session.{Session, Handed, Wrote, core, live, advanced, wroteMore, started, sealing, opening, macing}
-use Rattle.promises.specs.Session.{sealStart, openStart, macStart, sealPiece, sealPieceInPlace, openPiece, macPiece}
-use Rattle.promises.specs.Session.{sessionTag, sessionMac, sealFinish, macFinish, openFinish, released}
+use Rattle.promises.specs.Texts.{keyed}
+use Rattle.promises.specs.OneShot.{onDone}
+use Rattle.promises.specs.SessionCalls.{Handed, Wrote, advanced, wroteMore, started}
+use Rattle.promises.specs.Session.{Session, core, live, sealing, opening, macing}
+use Rattle.promises.specs.SessionCalls.{sealStart, openStart, macStart, sealPiece, sealPieceInPlace, openPiece, macPiece}
+use Rattle.promises.specs.SessionCalls.{sealFinish, macFinish, openFinish, released}
+use Rattle.promises.specs.Session.{sessionTag, sessionMac}
 
 done : {A : Type 0} (answer : A → ℕ) (a : ℕ) (refused : ℕ → A) (work : A) → ((b : ℕ) → answer (refused b) ≡ b)
     → answer (onDone a refused work) ≡ 0 → onDone a refused work ≡ work

@@ -8,7 +8,8 @@ use lib.ListN.{length, take, drop, length-append}
 use lib.Seq.{take-add}
 use Rattle.machine.specs.Machine.{Machine, Mode, after}
 use Rattle.machine.proofs.Cutting.{after-append}
-use Rattle.promises.specs.Session.{Session, core, advanced, wroteMore}
+use Rattle.promises.specs.SessionCalls.{advanced, wroteMore}
+use Rattle.promises.specs.Session.{Session, core}
 
 -- the first e bytes are the first i and the part from i up to e
 pub parts-join : (i e : ℕ) (l : List ℕ) → i ≤ e → take e l ≡ take i l ++ take (e - i) (drop i l)

@@ -8,7 +8,8 @@ use lib.ListN.{length, take, drop}
 use lib.Seq.{take-all}
 use Rattle.machine.specs.Machine.{enc}
 use Rattle.machine.specs.Kinds.{silent}
-use Rattle.promises.specs.Session.{Session, Handed, Wrote, sessionMac, macStart, macPiece, macFinish}
+use Rattle.promises.specs.SessionCalls.{Handed, Wrote, macStart, macPiece, macFinish}
+use Rattle.promises.specs.Session.{Session, sessionMac}
 use Rattle.promises.proofs.SessionAt.{macingAt, macing-start, macing-more, macing-tag}
 use Rattle.aegis128l.specs.Aegis128L.{Blocks, machine}
 use Rattle.aegis128l.specs.Cipher.{aegis128l, aegis128lMac}

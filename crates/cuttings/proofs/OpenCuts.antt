@@ -7,8 +7,9 @@ use native.Mathlib.Nat.{le-refl}
 use lib.ListN.{length, take, drop}
 use lib.Seq.{take-all}
 use Rattle.machine.specs.Machine.{dec}
-use Rattle.promises.specs.Session.{Session, Handed, Wrote, sessionTag, openStart, openPiece, openFinish}
-use Rattle.promises.specs.Session as promise
+use Rattle.promises.specs.SessionCalls.{Handed, Wrote, openStart, openPiece, openFinish}
+use Rattle.promises.specs.Session.{Session, sessionTag}
+use Rattle.promises.specs.SessionCalls as promise
 use Rattle.promises.proofs.SessionAt.{openingAt, opening-start, opening-more, opening-tag}
 use Rattle.aegis128l.specs.Aegis128L.{Blocks, machine}
 use Rattle.aegis128l.specs.Cipher.{aegis128l}

@@ -10,7 +10,8 @@ use Rattle.machine.specs.Machine.{Core, enc, out, after}
 use Rattle.machine.proofs.Cutting.{out-append}
 use Rattle.lent.specs.Lent.{over}
 use Rattle.lent.proofs.Over.{over-same}
-use Rattle.promises.specs.Session.{Session, Handed, Wrote, core, sessionTag, sealStart, sealPiece, sealPieceInPlace, sealFinish}
+use Rattle.promises.specs.SessionCalls.{Handed, Wrote, sealStart, sealPiece, sealPieceInPlace, sealFinish}
+use Rattle.promises.specs.Session.{Session, core, sessionTag}
 use Rattle.promises.proofs.SessionAt.{sealingAt, sealing-start, sealing-more, ciphertext-nil, ciphertext-more, sealing-tag}
 use Rattle.aegis128l.specs.Aegis128L.{Blocks, machine}
 use Rattle.aegis128l.specs.Cipher.{aegis128l}

@@ -6,7 +6,8 @@ use mathlib.Core.List.{List}
 use lib.ListN.{length}
 use Rattle.machine.specs.Machine.{enc, dec, after, out}
 use Rattle.machine.specs.Kinds.{silent}
-use Rattle.promises.specs.Session.{Session, core, advanced, wroteMore, sessionTag, sessionMac}
+use Rattle.promises.specs.SessionCalls.{advanced, wroteMore}
+use Rattle.promises.specs.Session.{Session, core, sessionTag, sessionMac}
 use Rattle.aegis128l.specs.Aegis128L.{Blocks, machine}
 use Rattle.aegis128l.specs.Cipher.{aegis128l, aegis128lMac}
 

@@ -9,7 +9,7 @@ use lib.ListN.{getD}
 use Rattle.machine.specs.Bytes.{zeros}
 use Rattle.machine.specs.Draft.{absorbBlocks, zeroPad, blocks, split, draftAbsorb}
 use Rattle.machine.specs.Lengths.{lengthBlock}
-use Rattle.promises.specs.OneShot.{macState, macTag}
+use Rattle.promises.specs.Texts.{macState, macTag}
 use Rattle.aes.specs.Field.{xtime, mulBits, mul}
 use Rattle.aes.specs.Round.{mixed, xorOf}
 use Rattle.aegis128l.specs.Aegis128L.{machine, absorb, loaded, init, tag16, tag}

@@ -9,7 +9,7 @@ use native.Mathlib.Omega.{arith}
 use lib.ListN.{getD}
 use Rattle.machine.specs.Bytes.{zeros}
 use Rattle.machine.specs.Draft.{absorbBlocks, zeroPad, blocks, split, draftAbsorb}
-use Rattle.promises.specs.OneShot.{keyed, sealTag, macState, macTag}
+use Rattle.promises.specs.Texts.{keyed, sealTag, macState, macTag}
 use Rattle.aegis128l.specs.Cipher.{aegis128l, aegis128lMac}
 use Rattle.draft_vectors.specs.Vectors.{key, nonce, Sealed, Maced, input}
 use Rattle.draft_vectors.proofs.Vectors.{hold, mac-holds}

@@ -8,7 +8,7 @@ use native.Mathlib.Omega.{arith}
 use lib.ListN.{length, take, getD}
 use Rattle.machine.specs.Draft.{zeroPad, blocks, split, draftAbsorb, draftEncrypt}
 use Rattle.machine.specs.Lengths.{lengthBlock}
-use Rattle.promises.specs.OneShot.{keyed, ciphertext, sealTag, macState, macTag}
+use Rattle.promises.specs.Texts.{keyed, ciphertext, sealTag, macState, macTag}
 use Rattle.aes.specs.Field.{xtime, mulBits, mul}
 use Rattle.aes.specs.Round.{mixed, xorOf, andOf}
 use Rattle.aegis128l.specs.Aegis128L.{Blocks, machine, keystream, loaded, init, finalized, tag16, tag32, tag}

@@ -3,7 +3,7 @@
 -- Assumes nothing.
 use Prim.Native.Nat.{ℕ, zero, suc, _/_, _%_, _^_}
 use mathlib.Core.List.{List, [], _∷_}
-use Rattle.promises.specs.OneShot.{ciphertext, sealTag, macTag}
+use Rattle.promises.specs.Texts.{ciphertext, sealTag, macTag}
 use Rattle.aegis128l.specs.Cipher.{aegis128l, aegis128lMac}
 
 -- a number as n bytes, the highest first: bytes as the draft prints them

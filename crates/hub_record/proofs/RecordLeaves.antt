@@ -12,7 +12,8 @@ use borrow.Rule.Slice.PartMut.{mid-len}
 use Rattle.answers.specs.Answers.{tagSize}
 use Rattle.lent.specs.Lent.{same}
 use Rattle.lent.proofs.Same.{same-equal}
-use Rattle.promises.specs.OneShot.{Left, onto, plaintext, openTag}
+use Rattle.promises.specs.Texts.{onto, plaintext, openTag}
+use Rattle.promises.specs.OneShot.{Left}
 use Rattle.promises.proofs.Allowed.{Sizes}
 use Rattle.promises.proofs.Texts.{plaintext-length}
 use Rattle.promises.proofs.Onto.{onto-whole}

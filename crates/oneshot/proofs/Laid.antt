@@ -9,7 +9,7 @@ use native.Mathlib.Omega.{arith}
 use lib.ListN.{length, take, drop}
 use Rattle.lent.specs.Lent.{over}
 use Rattle.lent.proofs.Over.{take-over, drop-over}
-use Rattle.promises.specs.OneShot.{onto}
+use Rattle.promises.specs.Texts.{onto}
 use Rattle.promises.proofs.Onto.{onto-whole}
 
 module _ (xs buf : List ℕ) (room : length xs ≤ length buf) {o : List ℕ} (eo : o ≡ over xs buf) where

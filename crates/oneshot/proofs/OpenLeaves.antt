@@ -13,7 +13,8 @@ use Rattle.answers.proofs.Answers.{one-shot-ok}
 use Rattle.lent.specs.Lent.{over, wiped, same}
 use Rattle.lent.proofs.Wiped.{wiped-fits}
 use Rattle.promises.specs.Cipher.{Cipher}
-use Rattle.promises.specs.OneShot.{onto, verdict, plaintext, openTag, openOf}
+use Rattle.promises.specs.Texts.{onto, plaintext, openTag}
+use Rattle.promises.specs.OneShot.{verdict, openOf}
 use Rattle.promises.proofs.Ladder.{refuses, does}
 use Rattle.promises.proofs.Onto.{length-onto}
 use Rattle.promises.proofs.Texts.{plaintext-length}

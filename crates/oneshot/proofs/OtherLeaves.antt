@@ -14,7 +14,8 @@ use Rattle.answers.specs.Answers.{stream, mac, unless}
 use Rattle.lent.specs.Lent.{wiped, same}
 use Rattle.lent.proofs.Wiped.{wiped-fits}
 use Rattle.promises.specs.Cipher.{Cipher, Mac}
-use Rattle.promises.specs.OneShot.{streamOf, streamXorOf, macTag, macOf, macCheckOf}
+use Rattle.promises.specs.Texts.{macTag}
+use Rattle.promises.specs.OneShot.{streamOf, streamXorOf, macOf, macCheckOf}
 use Rattle.promises.proofs.Ladder.{refuses, does}
 use Rattle.oneshot.specs.Leaves.{left}
 

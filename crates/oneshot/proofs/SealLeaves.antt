@@ -8,7 +8,8 @@ use Rattle.answers.specs.Answers.{oneShot}
 use Rattle.answers.proofs.Answers.{one-shot-ok}
 use Rattle.lent.specs.Lent.{over}
 use Rattle.promises.specs.Cipher.{Cipher}
-use Rattle.promises.specs.OneShot.{onto, ciphertext, sealTag, sealOf}
+use Rattle.promises.specs.Texts.{onto, ciphertext, sealTag}
+use Rattle.promises.specs.OneShot.{sealOf}
 use Rattle.promises.proofs.Ladder.{refuses, does}
 use Rattle.promises.proofs.Texts.{ciphertext-length}
 use Rattle.oneshot.specs.Leaves.{sealLeft}

@@ -10,7 +10,7 @@ use Rattle.machine.specs.Draft.{draftAbsorb}
 use Rattle.machine.proofs.Cutting.{out-length}
 use Rattle.machine.proofs.Draft.{absorbs, encrypts, decrypts, decrypts-state}
 use Rattle.promises.specs.Cipher.{Cipher, Mac}
-use Rattle.promises.specs.OneShot.{keyed, ciphertext, plaintext, sealTag, openTag, macState, macTag}
+use Rattle.promises.specs.Texts.{keyed, ciphertext, plaintext, sealTag, openTag, macState, macTag}
 
 module _ {S : Type 0} (C : Cipher S) where
   open Cipher C using (machine, init, tag)

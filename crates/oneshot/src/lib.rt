@@ -6,7 +6,7 @@ ghost use lib.ListN.{length};
 ghost use Rattle.lent.specs.Lent.{same};
 ghost use Rattle.answers.specs.Answers.{tagSize, limit};
 ghost use Rattle.aes.specs.Field.{Table};
-ghost use Rattle.promises.specs.OneShot as promise;
+ghost use Rattle.promises.specs.Texts as promise;
 ghost use Rattle.promises.specs.Met.{SealMet, SealInPlaceMet, OpenMet, OpenInPlaceMet};
 ghost use Rattle.aegis128l.specs.Aegis128L as draft;
 ghost use Rattle.aegis128l.specs.Cipher.{aegis128l};

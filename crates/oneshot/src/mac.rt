@@ -1,7 +1,7 @@
 // The MAC of document 01: the data is absorbed as associated data is, and empty data absorbs one block of zeros.
 ghost use mathlib.Core.Path.{_≡_};
 ghost use Rattle.aes.specs.Field.{Table};
-ghost use Rattle.promises.specs.OneShot as promise;
+ghost use Rattle.promises.specs.Texts as promise;
 ghost use Rattle.promises.specs.Met.{MacMet, MacCheckMet};
 ghost use Rattle.aegis128l.specs.Aegis128L as draft;
 ghost use Rattle.aegis128l.specs.Cipher.{aegis128l, aegis128lMac};

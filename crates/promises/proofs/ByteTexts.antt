@@ -8,7 +8,7 @@ use lib.ListN.{length}
 use Rattle.machine.specs.Bytes.{Bytes}
 use Rattle.machine.proofs.ByteLists.{absorb-bytes, encrypt-bytes, decrypt-bytes}
 use Rattle.promises.specs.Cipher.{Cipher}
-use Rattle.promises.specs.OneShot.{keyed, ciphertext, plaintext, sealTag}
+use Rattle.promises.specs.Texts.{keyed, ciphertext, plaintext, sealTag}
 use Rattle.promises.proofs.Forms.{SealedForm, form-plaintext}
 
 pub record Bytewise {S : Type 0} (C : Cipher S) : Type 1 where

@@ -9,7 +9,8 @@ use Rattle.machine.specs.Bytes.{zeros, xors}
 use Rattle.machine.specs.Draft.{draftAbsorb, draftEncrypt, draftDecrypt, draftDecryptState}
 use Rattle.machine.specs.Kinds.{keystream, streamXor}
 use Rattle.promises.specs.Cipher.{Cipher, Mac}
-use Rattle.promises.specs.OneShot.{SealLeft, Left, onto, keyed, ciphertext, plaintext, sealTag, openTag, macTag, macState, streamXorOf}
+use Rattle.promises.specs.Texts.{onto, keyed, ciphertext, plaintext, sealTag, openTag, macTag, macState}
+use Rattle.promises.specs.OneShot.{SealLeft, Left, streamXorOf}
 use Rattle.promises.specs.Met.{SealMet, OpenMet, StreamMet, StreamXorMet, MacMet}
 use Rattle.promises.specs.Demands.{Demand2}
 use Rattle.promises.proofs.SealAnswers.{seal-done, seal-zero}

@@ -11,7 +11,8 @@ use Rattle.machine.specs.Bytes.{zeros, Bytes}
 use Rattle.answers.specs.Answers.{limit}
 use Rattle.promises.specs.Cipher.{Cipher, Mac}
 use Rattle.promises.specs.Allowed.{Allowed}
-use Rattle.promises.specs.OneShot.{SealLeft, Left, onto, ciphertext, sealTag, sealOf, openOf, macTag}
+use Rattle.promises.specs.Texts.{onto, ciphertext, sealTag, macTag}
+use Rattle.promises.specs.OneShot.{SealLeft, Left, sealOf, openOf}
 use Rattle.promises.specs.Met.{OpenInPlaceMet, MacMet, MacCheckMet}
 use Rattle.promises.specs.Trace.{taken, given}
 use Rattle.promises.specs.Calls.{SealCall, OpenCall}

@@ -15,9 +15,11 @@ use Rattle.answers.proofs.Ladder.{Extends, numbered, climb-extends}
 use Rattle.answers.proofs.FirstApplies.{climb-exactly}
 use Rattle.lent.specs.Lent.{same}
 use Rattle.promises.specs.Cipher.{Cipher, Mac}
-use Rattle.promises.specs.OneShot.{Left, onDone, verdict, openTag, macTag, openOf, macCheckOf}
-use Rattle.promises.specs.Session.{Session, Handed, Wrote, Opened, opening, live, sessionTag, sessionMac}
-use Rattle.promises.specs.Session as session
+use Rattle.promises.specs.Texts.{openTag, macTag}
+use Rattle.promises.specs.OneShot.{Left, onDone, verdict, openOf, macCheckOf}
+use Rattle.promises.specs.SessionCalls.{Handed, Wrote, Opened}
+use Rattle.promises.specs.Session.{Session, opening, live, sessionTag, sessionMac}
+use Rattle.promises.specs.SessionCalls as session
 use Rattle.promises.specs.Trace.{askSealPiece, askSealPieceInPlace, askOpenPiece, askMacPiece}
 use Rattle.promises.specs.Trace.{askSealFinish, askOpenFinish, askMacFinish, askMacFinishCheck, askAbort}
 use Rattle.promises.specs.AnyCall.{AnyCall, askSeal, askSealInPlace, askOpen, askOpenInPlace, askStream, askStreamXor, askMac, askMacCheck}

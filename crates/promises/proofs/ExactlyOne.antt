@@ -4,8 +4,8 @@ use Prim.Native.Nat.{ℕ}
 use mathlib.Core.Path.{_≡_, refl, sym, ap, _∙_}
 use Rattle.promises.specs.Cipher.{Cipher, Mac}
 use Rattle.promises.specs.OneShot.{SealLeft, Left, sealOf, sealInPlaceOf, openOf, openInPlaceOf, streamOf, streamXorOf, macOf, macCheckOf}
-use Rattle.promises.specs.Session.{Handed, Wrote, Opened}
-use Rattle.promises.specs.Session as session
+use Rattle.promises.specs.SessionCalls.{Handed, Wrote, Opened}
+use Rattle.promises.specs.SessionCalls as session
 use Rattle.promises.specs.Trace.{askSealPiece, askSealPieceInPlace, askOpenPiece, askMacPiece}
 use Rattle.promises.specs.Trace.{askSealFinish, askOpenFinish, askMacFinish, askMacFinishCheck, askAbort}
 use Rattle.promises.specs.AnyCall.{AnyCall, askSeal, askSealInPlace, askOpen, askOpenInPlace, askStream, askStreamXor, askMac, askMacCheck}

@@ -7,7 +7,8 @@ use mathlib.Core.Logic.{⊎-elim, _≢_}
 use mathlib.Core.List.{List}
 use Rattle.promises.specs.Cipher.{Cipher, Mac}
 use Rattle.promises.specs.OneShot.{SealLeft, Left}
-use Rattle.promises.specs.Session.{Session, Handed, Wrote, Opened}
+use Rattle.promises.specs.SessionCalls.{Handed, Wrote, Opened}
+use Rattle.promises.specs.Session.{Session}
 use Rattle.promises.specs.Trace.{askSealPiece, askSealPieceInPlace, askOpenPiece, askMacPiece}
 use Rattle.promises.specs.Trace.{askSealFinish, askOpenFinish, askMacFinish, askMacFinishCheck, askAbort}
 use Rattle.promises.specs.AnyCall.{AnyCall, askSeal, askSealInPlace, askOpen, askOpenInPlace, askStream, askStreamXor, askMac, askMacCheck}

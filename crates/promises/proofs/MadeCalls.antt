@@ -13,8 +13,9 @@ use Rattle.machine.specs.Machine.{Machine}
 use Rattle.answers.specs.Answers as answers
 use Rattle.lent.specs.Lent.{same}
 use Rattle.promises.specs.Cipher.{Cipher, Mac}
-use Rattle.promises.specs.Session.{sealing, opening, macing, Session, Handed, Wrote, Opened, live, abortLive, ifOpening, ended}
-use Rattle.promises.specs.Session as session
+use Rattle.promises.specs.SessionCalls.{Handed, Wrote, Opened}
+use Rattle.promises.specs.Session.{sealing, opening, macing, Session, live, abortLive, ifOpening, ended, sessionTag}
+use Rattle.promises.specs.SessionCalls as session
 use Rattle.promises.specs.Trace.{Made, sealPiece, sealPieceInPlace, openPiece, macPiece, sealFinish, openFinish, macFinish, macFinishCheck, abort}
 use Rattle.promises.specs.Trace.{Calls, _▸_, answerOf, LeftAlone, Ended, Over, Met, Trace, made}
 use Rattle.promises.proofs.SessionLive.{ended-not-live, ended-not-abortable}
@@ -96,7 +97,7 @@ module _ {S : Type 0} (C : Cipher S) (M : Mac S) where
         let a = answers.openFinish (live rate opening s) (length plain) (s .room) (length tag) (s .tagSize) in
         onDone-cases (λ (r : Opened S). Ends (r .answer) → r .session ≡ ended C) a _ _
         (λ b e h. absurd (no-end a b e (ladder.openFinish-not-7 (live rate opening s) (length plain) (s .room) (length tag) (s .tagSize)) h))
-        (λ e h. verdict (same tag (session.sessionTag C s)))
+        (λ e h. verdict (same tag (sessionTag C s)))
       where
         verdict : (t : Bool) → session.released C t s plain .session ≡ ended C
         verdict true = refl

@@ -17,8 +17,9 @@ use Rattle.answers.proofs.Answers.{open-piece-ok, open-finish-ok, abort-ok}
 use Rattle.lent.specs.Lent.{same}
 use Rattle.promises.specs.Cipher.{Cipher, Mac}
 use Rattle.promises.specs.OneShot.{onDone}
-use Rattle.promises.specs.Session.{sealing, opening, macing, Session, Handed, Wrote, Opened, live, abortLive, ifOpening, pick, ended}
-use Rattle.promises.specs.Session as session
+use Rattle.promises.specs.SessionCalls.{Handed, Wrote, Opened}
+use Rattle.promises.specs.Session.{sealing, opening, macing, Session, live, abortLive, ifOpening, pick, ended, sessionTag}
+use Rattle.promises.specs.SessionCalls as session
 use Rattle.promises.specs.Run.{Call, World, Result, begun, took, left, wrote, handed, counted, step, hands, run, results}
 use Rattle.promises.specs.Run as call
 use Rattle.promises.specs.Trace.{Made, sealPiece, sealPieceInPlace, openPiece, macPiece, sealFinish, openFinish, macFinish, macFinishCheck, abort}
@@ -163,7 +164,7 @@ module _ {S : Type 0} (C : Cipher S) (M : Mac S) where
   openFinish-moves s tag plain =
       onDone-cases (λ (r : Opened S). Moves s (r .session))
       (answers.openFinish (live rate opening s) (length plain) (s .room) (length tag) (s .tagSize)) _ _
-      (λ b e. inl (refl, refl)) (λ e. verdict (same tag (session.sessionTag C s)))
+      (λ b e. inl (refl, refl)) (λ e. verdict (same tag (sessionTag C s)))
     where
       verdict : (t : Bool) → Moves s (session.released C t s plain .session)
       verdict true = inr refl

@@ -14,9 +14,10 @@ use Rattle.machine.specs.Bytes.{zeros}
 use Rattle.machine.specs.Machine.{Machine}
 use Rattle.answers.proofs.Answers.{ok-abort}
 use Rattle.promises.specs.Cipher.{Cipher, Mac}
-use Rattle.promises.specs.OneShot.{onto}
-use Rattle.promises.specs.Session.{sealing, opening, macing, pick, ended, live, Session, Wrote}
-use Rattle.promises.specs.Session as session
+use Rattle.promises.specs.Texts.{onto}
+use Rattle.promises.specs.SessionCalls.{Wrote}
+use Rattle.promises.specs.Session.{sealing, opening, macing, pick, ended, live, Session}
+use Rattle.promises.specs.SessionCalls as session
 use Rattle.promises.specs.Trace.{abort, Calls, _▸_, Going, SealSession, OpenSession, MacSession}
 use Rattle.promises.proofs.Ladder.{does}
 use Rattle.promises.proofs.SessionLive.{live-facts, facts-abortLive}

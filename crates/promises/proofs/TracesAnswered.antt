@@ -3,7 +3,7 @@
 use mathlib.Core.Path.{_≡_, refl}
 use Rattle.promises.specs.Cipher.{Cipher, Mac}
 use Rattle.promises.specs.Session.{Session}
-use Rattle.promises.specs.Session as session
+use Rattle.promises.specs.SessionCalls as session
 use Rattle.promises.specs.Trace
 
 module _ {S : Type 0} (C : Cipher S) (M : Mac S) where

@@ -8,8 +8,9 @@ use mathlib.Core.List.{List, [], _∷_, _++_, append-nil}
 use lib.ListN.{length, getD}
 use Rattle.machine.specs.Bytes.{zeros}
 use Rattle.promises.specs.Cipher.{Cipher, Mac}
-use Rattle.promises.specs.OneShot.{onto}
-use Rattle.promises.specs.Session.{ended, openStart}
+use Rattle.promises.specs.Texts.{onto}
+use Rattle.promises.specs.SessionCalls.{openStart}
+use Rattle.promises.specs.Session.{ended}
 use Rattle.promises.specs.Run.{World, begun, step, hands, openRun}
 use Rattle.promises.specs.Trace.{Made, openFinish, abort, Calls, none, _▸_, taken, Refused, OpenSession}
 use Rattle.promises.proofs.SessionCalls.{Ends}

@@ -13,7 +13,7 @@ use Rattle.machine.proofs.Kept.{start-kept, after-fill}
 use Rattle.machine.proofs.Draft.{decrypts}
 use Rattle.machine.proofs.Held.{held-at-start, held-after}
 use Rattle.promises.specs.Cipher.{Cipher, Mac}
-use Rattle.promises.specs.OneShot.{keyed, plaintext}
+use Rattle.promises.specs.Texts.{keyed, plaintext}
 use Rattle.promises.specs.Session.{sealing, opening, macing}
 use Rattle.promises.specs.Record.{RecordHolds}
 use Rattle.promises.specs.Trace.{Calls, taken, Going, SealSession, OpenSession, MacSession}

@@ -14,9 +14,11 @@ use Rattle.answers.specs.Answers as answers
 use Rattle.answers.proofs.Answers.{ok-mac-start}
 use Rattle.promises.specs.Cipher.{Cipher, Mac}
 use Rattle.promises.specs.Allowed.{Allowed}
-use Rattle.promises.specs.OneShot.{Left, macTag, macOf, macCheckOf}
-use Rattle.promises.specs.Session.{macing, opening, Session, Handed, live, ended, macStart}
-use Rattle.promises.specs.Session as session
+use Rattle.promises.specs.Texts.{macTag}
+use Rattle.promises.specs.OneShot.{Left, macOf, macCheckOf}
+use Rattle.promises.specs.SessionCalls.{Handed, macStart}
+use Rattle.promises.specs.Session.{macing, opening, Session, live, ended}
+use Rattle.promises.specs.SessionCalls as session
 use Rattle.promises.specs.Met.{MacMet, MacCheckMet}
 use Rattle.promises.specs.Run.{World, Result, wrote, hands, macRun}
 use Rattle.promises.specs.Run as call

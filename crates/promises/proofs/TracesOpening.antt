@@ -14,9 +14,11 @@ use Rattle.machine.specs.Machine.{Machine}
 use Rattle.answers.specs.Answers as answers
 use Rattle.answers.proofs.Answers.{ok-start}
 use Rattle.promises.specs.Cipher.{Cipher, Mac}
-use Rattle.promises.specs.OneShot.{Left, onto, ciphertext, plaintext, sealTag, openOf}
-use Rattle.promises.specs.Session.{opening, Session, Handed, Wrote, Opened, live, ended, openStart}
-use Rattle.promises.specs.Session as session
+use Rattle.promises.specs.Texts.{onto, ciphertext, plaintext, sealTag}
+use Rattle.promises.specs.OneShot.{Left, openOf}
+use Rattle.promises.specs.SessionCalls.{Handed, Wrote, Opened, openStart}
+use Rattle.promises.specs.Session.{opening, Session, live, ended}
+use Rattle.promises.specs.SessionCalls as session
 use Rattle.promises.specs.Met.{OpenMet}
 use Rattle.promises.specs.Run.{Call, World, Result, counted, hands, openRun}
 use Rattle.promises.specs.Run as call

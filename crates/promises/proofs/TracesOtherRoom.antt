@@ -14,8 +14,9 @@ use Rattle.machine.specs.Bytes.{zeros}
 use Rattle.machine.specs.Machine.{Machine}
 use Rattle.answers.specs.Answers as answers
 use Rattle.promises.specs.Cipher.{Cipher, Mac}
-use Rattle.promises.specs.Session.{sealing, opening, macing, live, abortLive, Session, Handed, Wrote, Opened}
-use Rattle.promises.specs.Session as session
+use Rattle.promises.specs.SessionCalls.{Handed, Wrote, Opened}
+use Rattle.promises.specs.Session.{sealing, opening, macing, live, abortLive, Session}
+use Rattle.promises.specs.SessionCalls as session
 use Rattle.promises.specs.Met.{OpenStartMet}
 use Rattle.promises.specs.Trace.{Made, sealPiece, sealPieceInPlace, openPiece, macPiece, sealFinish, openFinish, macFinish, macFinishCheck, abort}
 use Rattle.promises.specs.Trace.{Calls, none, _▸_, answerOf, LeftAlone, Going, Ended, Met, Trace, at-start, made}

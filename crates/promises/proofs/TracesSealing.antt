@@ -13,9 +13,10 @@ use Rattle.machine.specs.Machine.{Machine}
 use Rattle.answers.specs.Answers as answers
 use Rattle.answers.proofs.Answers.{StartOk, start-ok, ok-start, finish-ok}
 use Rattle.promises.specs.Cipher.{Cipher, Mac}
-use Rattle.promises.specs.OneShot.{ciphertext, sealTag}
-use Rattle.promises.specs.Session.{sealing, opening, Session, Handed, Wrote, live, ended, sealStart}
-use Rattle.promises.specs.Session as session
+use Rattle.promises.specs.Texts.{ciphertext, sealTag}
+use Rattle.promises.specs.SessionCalls.{Handed, Wrote, sealStart}
+use Rattle.promises.specs.Session.{sealing, opening, Session, live, ended}
+use Rattle.promises.specs.SessionCalls as session
 use Rattle.promises.specs.Run.{World, Result, wrote, hands, sealRun}
 use Rattle.promises.specs.Run as call
 use Rattle.promises.specs.Trace.{Made, sealPiece, sealPieceInPlace, sealFinish, Calls, _▸_, taken, given, Going, Met, Trace, SealSession}

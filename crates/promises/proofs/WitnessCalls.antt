@@ -12,7 +12,7 @@ use Rattle.answers.specs.Answers.{limit}
 use Rattle.answers.proofs.Answers.{tag-size-positive}
 use Rattle.promises.specs.Cipher.{Cipher, Mac}
 use Rattle.promises.specs.Allowed.{Allowed}
-use Rattle.promises.specs.OneShot.{onto, ciphertext, sealTag, openTag, macTag}
+use Rattle.promises.specs.Texts.{onto, ciphertext, sealTag, openTag, macTag}
 use Rattle.promises.specs.Met.{SealMet, OpenMet, StreamMet, StreamXorMet, MacMet, MacCheckMet}
 use Rattle.promises.specs.Calls.{SealCall, OpenCall}
 use Rattle.promises.specs.Demands.{SealedAs}

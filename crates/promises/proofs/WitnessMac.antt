@@ -17,9 +17,10 @@ use Rattle.answers.specs.Answers as answers
 use Rattle.answers.proofs.Answers.{ok-piece}
 use Rattle.promises.specs.Cipher.{Cipher, Mac}
 use Rattle.promises.specs.Allowed.{Allowed}
-use Rattle.promises.specs.OneShot.{macTag}
-use Rattle.promises.specs.Session.{Session, macing, ended, live, macStart}
-use Rattle.promises.specs.Session as session
+use Rattle.promises.specs.Texts.{macTag}
+use Rattle.promises.specs.SessionCalls.{macStart}
+use Rattle.promises.specs.Session.{Session, macing, ended, live}
+use Rattle.promises.specs.SessionCalls as session
 use Rattle.promises.specs.Met.{MacCheckMet}
 use Rattle.promises.specs.Trace.{Made, macPiece, macFinish, macFinishCheck, abort, Calls, none, _▸_, taken, Going, Met, at-start, made, MacSession}
 use Rattle.promises.proofs.Texts.{macTag-length}

@@ -16,9 +16,10 @@ use Rattle.answers.specs.Answers as answers
 use Rattle.answers.proofs.Answers.{tag-size-positive}
 use Rattle.promises.specs.Cipher.{Cipher, Mac}
 use Rattle.promises.specs.Allowed.{Allowed}
-use Rattle.promises.specs.OneShot.{onto, ciphertext, plaintext, sealTag, openTag}
-use Rattle.promises.specs.Session.{Session, opening, live, openStart}
-use Rattle.promises.specs.Session as session
+use Rattle.promises.specs.Texts.{onto, ciphertext, plaintext, sealTag, openTag}
+use Rattle.promises.specs.SessionCalls.{openStart}
+use Rattle.promises.specs.Session.{Session, opening, live}
+use Rattle.promises.specs.SessionCalls as session
 use Rattle.promises.specs.Met.{OpenStartMet}
 use Rattle.promises.specs.Trace.{Made, openPiece, openFinish, abort, Calls, none, _▸_, taken, Going, Over, Keeps, AllLentOther}
 use Rattle.promises.specs.Trace.{Met, Trace, at-start, made, at-first, kept, OpenSession}

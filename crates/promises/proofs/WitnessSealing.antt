@@ -16,9 +16,10 @@ use Rattle.answers.specs.Answers.{limit}
 use Rattle.answers.specs.Answers as answers
 use Rattle.promises.specs.Cipher.{Cipher, Mac}
 use Rattle.promises.specs.Allowed.{Allowed}
-use Rattle.promises.specs.OneShot.{ciphertext, sealTag}
-use Rattle.promises.specs.Session.{Session, sealing, ended, live, sealStart}
-use Rattle.promises.specs.Session as session
+use Rattle.promises.specs.Texts.{ciphertext, sealTag}
+use Rattle.promises.specs.SessionCalls.{sealStart}
+use Rattle.promises.specs.Session.{Session, sealing, ended, live}
+use Rattle.promises.specs.SessionCalls as session
 use Rattle.promises.specs.Trace.{Made, sealPiece, sealPieceInPlace, sealFinish, abort}
 use Rattle.promises.specs.Trace.{Calls, none, _▸_, taken, given, Going, Met, at-start, made, SealSession}
 use Rattle.promises.proofs.TracesSealing as sealings

@@ -15,7 +15,7 @@ use Rattle.machine.proofs.ByteLists.{bytes-append}
 use Rattle.answers.specs.Answers.{limit}
 use Rattle.promises.specs.Cipher.{Cipher, Mac}
 use Rattle.promises.specs.Allowed.{Allowed}
-use Rattle.promises.specs.OneShot.{onto, ciphertext, sealTag, macTag}
+use Rattle.promises.specs.Texts.{onto, ciphertext, sealTag, macTag}
 use Rattle.promises.specs.Session.{Session, pick}
 use Rattle.promises.specs.AnyCall.{askSeal, askOpen, on}
 use Rattle.promises.specs.Trace.{Made, sealFinish, Calls, none, _▸_, Trace, at-start, made, askSealPiece, askMacPiece, askMacFinish}

@@ -11,7 +11,7 @@ use Rattle.answers.specs.Answers.{Rung, oneShotRungs, streamRungs, macRungs, st
 use Rattle.answers.specs.Answers.{sealPieceRungs, pieceRungs, openPieceRungs, finishRungs, openFinishRungs, abortRungs}
 use Rattle.lent.specs.Lent.{same}
 use Rattle.promises.specs.Cipher.{Cipher, Mac}
-use Rattle.promises.specs.OneShot.{openTag, macTag}
+use Rattle.promises.specs.Texts.{openTag, macTag}
 use Rattle.promises.specs.Session.{Session, ended, sealing, opening, macing, ifOpening, live, abortLive, sessionTag, sessionMac}
 use Rattle.promises.specs.Met.{SealMet, SealInPlaceMet, OpenMet, OpenInPlaceMet, StreamMet, StreamXorMet, MacMet, MacCheckMet}
 use Rattle.promises.specs.Met.{SealStartMet, OpenStartMet, MacStartMet}

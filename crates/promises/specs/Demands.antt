@@ -14,7 +14,7 @@ use Rattle.machine.specs.Kinds.{silent}
 use Rattle.answers.specs.Answers.{limit, FirstApplies}
 use Rattle.promises.specs.Cipher.{Cipher, Mac}
 use Rattle.promises.specs.Allowed.{Allowed}
-use Rattle.promises.specs.OneShot.{onto, ciphertext, plaintext}
+use Rattle.promises.specs.Texts.{onto, ciphertext, plaintext}
 use Rattle.promises.specs.Session.{Session, ended, sealing, opening, macing}
 use Rattle.promises.specs.Record.{RecordHolds}
 use Rattle.promises.specs.Met.{SealMet, SealInPlaceMet, OpenMet, OpenInPlaceMet, StreamMet, StreamXorMet, MacMet, MacCheckMet, OpenStartMet}

@@ -6,8 +6,9 @@ use mathlib.Core.Path.{_≡_}
 use mathlib.Core.List.{List}
 use Rattle.promises.specs.Cipher.{Cipher, Mac}
 use Rattle.promises.specs.OneShot.{SealLeft, Left, sealOf, sealInPlaceOf, openOf, openInPlaceOf, streamOf, streamXorOf, macOf, macCheckOf}
-use Rattle.promises.specs.Session.{Session, Handed, Wrote, Opened}
-use Rattle.promises.specs.Session as session
+use Rattle.promises.specs.SessionCalls.{Handed, Wrote, Opened}
+use Rattle.promises.specs.Session.{Session}
+use Rattle.promises.specs.SessionCalls as session
 
 module _ {S : Type 0} (C : Cipher S) where
   -- ---- the one-shots

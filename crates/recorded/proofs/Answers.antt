@@ -10,7 +10,8 @@ use Rattle.lent.proofs.Over.{over-same}
 use Rattle.machine.specs.Bytes.{zeros}
 use Rattle.machine.specs.Kinds.{keystream, streamXor}
 use Rattle.machine.proofs.Stream.{streamXor-length, streamXor-zeros, streamXor-twice}
-use Rattle.promises.specs.OneShot.{SealLeft, Left, ciphertext, plaintext, sealTag, macTag}
+use Rattle.promises.specs.Texts.{ciphertext, plaintext, sealTag, macTag}
+use Rattle.promises.specs.OneShot.{SealLeft, Left}
 use Rattle.promises.specs.OneShot.{sealOf, sealInPlaceOf, openOf, openInPlaceOf, macOf, streamOf, streamXorOf}
 use Rattle.promises.proofs.Texts.{ciphertext-length, plaintext-length}
 use Rattle.promises.proofs.Onto.{onto-whole}

@@ -7,7 +7,7 @@ use mathlib.Core.List.{List}
 use lib.ListN.{length, getD, set, replicate}
 use lib.Bits.{bitXor}
 use Rattle.machine.specs.Kinds as kinds
-use Rattle.promises.specs.OneShot.{ciphertext, sealTag, plaintext, openTag, macTag}
+use Rattle.promises.specs.Texts.{ciphertext, sealTag, plaintext, openTag, macTag}
 use Rattle.aegis128l.specs.Aegis128L.{machine, init}
 use Rattle.aegis128l.specs.Cipher.{aegis128l, aegis128lMac}
 

@@ -6,8 +6,9 @@ use mathlib.Core.List.{List}
 use lib.ListN.{length}
 use Rattle.answers.specs.Answers as answers
 use Rattle.promises.specs.Cipher.{Cipher}
-use Rattle.promises.specs.OneShot.{keyed}
-use Rattle.promises.specs.Session.{sealing, opening, macing, Session, Handed, ended, started, sealStart, openStart, macStart}
+use Rattle.promises.specs.Texts.{keyed}
+use Rattle.promises.specs.SessionCalls.{Handed, started, sealStart, openStart, macStart}
+use Rattle.promises.specs.Session.{sealing, opening, macing, Session, ended}
 use Rattle.promises.proofs.Ladder.{does, refuses}
 
 module _ {S : Type 0} (C : Cipher S) where

@@ -6,6 +6,7 @@ use native.Mathlib.Omega.{arith}
 use mathlib.Core.Path.{_≡_, refl, sym, ap, _∙_}
 use mathlib.Core.List.{List, [], _∷_}
 use lib.ListN.{length}
+use Rattle.promises.specs.SessionCalls as calls
 use Rattle.promises.specs.Session as promise
 use Rattle.aes.specs.declared.AesBlock.{AesBlock}
 use Rattle.aegis128l.specs.Aegis128L.{Blocks}
@@ -15,7 +16,7 @@ use Rattle.session.specs.declared.Finish.{Finish}
 use Rattle.session.specs.View.{sessionOf}
 
 -- an opening finish, as the promises have it
-abbrev pub openedOf : Finish → List ℕ → promise.Opened Blocks
+abbrev pub openedOf : Finish → List ℕ → calls.Opened Blocks
 openedOf r out = record {
   answer = r .opened .answer;
   count = r .opened .count;

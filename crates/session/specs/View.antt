@@ -4,6 +4,7 @@ use Prim.Native.Nat.{ℕ}
 use mathlib.Core.Bool.{Bool}
 use mathlib.Core.List.{List}
 use Rattle.machine.specs.Machine.{Core, after, out}
+use Rattle.promises.specs.SessionCalls as calls
 use Rattle.promises.specs.Session as promise
 use Rattle.aegis128l.specs.Aegis128L.{Blocks, machine}
 use Rattle.aegis128l.specs.View.{blocksOf, modeOf}
@@ -60,5 +61,5 @@ abbrev pub outWith : Bool → promise.Session Blocks → List ℕ → List ℕ
 outWith decrypt s xs = out machine (modeOf decrypt) (promise.core s) xs
 
 -- what is handed back beside no buffer
-abbrev pub handedOf : Piece → promise.Handed Blocks
+abbrev pub handedOf : Piece → calls.Handed Blocks
 handedOf r = record { answer = r .answer; session = sessionOf (r .session) }

@@ -1,8 +1,8 @@
 // The three starts. A refused start hands back a session that is over.
 ghost use mathlib.Core.Path.{_≡_};
-ghost use Rattle.promises.specs.Session as promise;
+ghost use Rattle.promises.specs.SessionCalls as promise;
 ghost use Rattle.promises.specs.Met.{SealStartMet, OpenStartMet, MacStartMet};
-ghost use Rattle.promises.specs.OneShot as once;
+ghost use Rattle.promises.specs.Texts as once;
 ghost use Rattle.aegis128l.specs.Cipher.{aegis128l};
 ghost use Rattle.aegis128l.specs.View.{stateOf};
 ghost use Rattle.session.specs.View.{sessionOf};

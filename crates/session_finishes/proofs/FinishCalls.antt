@@ -16,9 +16,11 @@ use Rattle.answers.proofs.Answers.{FinishOk, OpenFinishOk, AbortOk, finish-ok, 
 use Rattle.lent.specs.Lent.{same, wiped}
 use Rattle.lent.proofs.Wiped.{wiped-fits}
 use Rattle.promises.specs.Cipher.{Cipher, Mac}
-use Rattle.promises.specs.OneShot.{onto}
-use Rattle.promises.specs.Session.{pick, sealing, opening, macing, Session, Handed, Wrote, Opened, ifOpening, wellFormed, live, ended, abortLive}
-use Rattle.promises.specs.Session.{sessionTag, sessionMac, sealFinish, macFinish, macFinishCheck, released, openFinish, abort}
+use Rattle.promises.specs.Texts.{onto}
+use Rattle.promises.specs.SessionCalls.{Handed, Wrote, Opened}
+use Rattle.promises.specs.Session.{pick, sealing, opening, macing, Session, ifOpening, wellFormed, live, ended, abortLive}
+use Rattle.promises.specs.SessionCalls.{sealFinish, macFinish, macFinishCheck, released, openFinish, abort}
+use Rattle.promises.specs.Session.{sessionTag, sessionMac}
 use Rattle.promises.proofs.SessionLive.{live-facts, opening-facts, abortLive-facts}
 use Rattle.promises.proofs.Ladder.{does, refuses}
 use Rattle.promises.proofs.Onto.{onto-zeros}

@@ -20,8 +20,9 @@ use Rattle.answers.proofs.Counter.{counted-answer, counted-refused, counted-don
 use Rattle.lent.specs.Lent.{over}
 use Rattle.lent.proofs.Over.{over-same}
 use Rattle.promises.specs.Cipher.{Cipher}
-use Rattle.promises.specs.Session.{sealing, opening, macing, Session, Handed, Wrote, live, core, advanced, wroteMore}
-use Rattle.promises.specs.Session.{sealPiece, sealPieceInPlace, openPiece, macPiece}
+use Rattle.promises.specs.SessionCalls.{Handed, Wrote, advanced, wroteMore}
+use Rattle.promises.specs.Session.{sealing, opening, macing, Session, live, core}
+use Rattle.promises.specs.SessionCalls.{sealPiece, sealPieceInPlace, openPiece, macPiece}
 use Rattle.promises.proofs.Ladder.{does, refuses}
 use Rattle.session.specs.View.{withTotal, withCore}
 use Rattle.session.proofs.LiveFacts.{live-fill, core-fill}

@@ -3,7 +3,7 @@
 use mathlib.Core.Path.{sym, ap, _∙_}
 use borrow.Author.Needs.{needs}
 use borrow.Author.Tests.{eqb-true}
-use Rattle.promises.specs.Session.{Handed}
+use Rattle.promises.specs.SessionCalls.{Handed}
 use Rattle.aegis128l.specs.Aegis128L.{Blocks}
 use Rattle.cuttings.proofs.macing.checked.Statement.{statement}
 use Rattle.cuttings.proofs.macing.checked.Tie as tie

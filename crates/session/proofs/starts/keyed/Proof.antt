@@ -3,7 +3,7 @@
 use mathlib.Core.Path.{ap, _∙_}
 use borrow.Author.Needs.{needs}
 use Rattle.machine.specs.Draft.{draftAbsorb}
-use Rattle.promises.specs.OneShot.{keyed}
+use Rattle.promises.specs.Texts.{keyed}
 use Rattle.aegis128l.specs.Aegis128L.{Blocks, machine}
 use Rattle.session.proofs.starts.keyed.Statement.{statement}
 use Rattle.session.proofs.starts.keyed.Tie as tie

@@ -1,7 +1,7 @@
 -- `started` meets its contract: it is the promised session, field by field.
 -- Assumes nothing.
 use mathlib.Core.Path.{refl}
-use Rattle.promises.specs.Session.{started}
+use Rattle.promises.specs.SessionCalls.{started}
 use Rattle.session.proofs.starts.started.Statement.{statement}
 use Rattle.session.proofs.starts.started.Tie as tie
 
