@@ -5,7 +5,7 @@
 use Prim.Native.Nat.{ℕ}
 use mathlib.Core.Path.{_≡_}
 use mathlib.Core.Logic.{_⊎_, _≢_}
-use mathlib.Core.List.{List, [], _++_}
+use mathlib.Core.List.{List, [], _∷_, _++_}
 use lib.ListN.{length}
 use Rattle.promises.specs.Cipher.{Cipher, Mac}
 use Rattle.promises.specs.OneShot.{onDone}
@@ -38,17 +38,6 @@ pub data Ask : Type 0 where
   askMacFinishCheck : (tag : List ℕ) → Ask
   askAbort : (plain : List ℕ) → Ask
 
-abbrev pub asked : Made → Ask
-asked (sealPiece msg out a out′) = askSealPiece msg out
-asked (sealPieceInPlace buf a buf′) = askSealPieceInPlace buf
-asked (openPiece ct plain a plain′) = askOpenPiece ct plain
-asked (macPiece data′ a) = askMacPiece data′
-asked (sealFinish tag a tag′) = askSealFinish tag
-asked (openFinish tag plain a n plain′) = askOpenFinish tag plain
-asked (macFinish tag a tag′) = askMacFinish tag
-asked (macFinishCheck tag a) = askMacFinishCheck tag
-asked (abort plain a plain′) = askAbort plain
-
 -- all calls so far, the last one on the right
 infixl 20 _▸_
 pub data Calls : Type 0 where
@@ -63,16 +52,41 @@ cs then (ds ▸ d) = (cs then ds) ▸ d
 
 -- ---- what can be seen of them
 
+-- bytes count where the piece was accepted
+abbrev pub counts : ℕ → List ℕ → List ℕ
+counts answer xs = onDone answer (λ a. []) xs
+
+-- of one call: what it was lent, its answer, the bytes that an accepted piece took, those that sealing made of them, and the buffer of an opening
+-- before and after, where the call takes one
+pub record Seen : Type 0 where
+  pub ask : Ask
+  pub answer : ℕ
+  pub input : List ℕ
+  pub output : List ℕ
+  pub plain : List (List ℕ × List ℕ)
+
+abbrev pub seen : Made → Seen
+seen (sealPiece msg out a out′) = record { ask = askSealPiece msg out; answer = a; input = counts a msg; output = counts a out′; plain = [] }
+seen (sealPieceInPlace buf a buf′) = record { ask = askSealPieceInPlace buf; answer = a; input = counts a buf; output = counts a buf′; plain = [] }
+seen (openPiece ct plain a plain′) = record { ask = askOpenPiece ct plain; answer = a; input = counts a ct; output = []; plain = (plain, plain′) ∷ [] }
+seen (macPiece data′ a) = record { ask = askMacPiece data′; answer = a; input = counts a data′; output = []; plain = [] }
+seen (sealFinish tag a tag′) = record { ask = askSealFinish tag; answer = a; input = []; output = []; plain = [] }
+seen (openFinish tag plain a n plain′) = record { ask = askOpenFinish tag plain; answer = a; input = []; output = []; plain = (plain, plain′) ∷ [] }
+seen (macFinish tag a tag′) = record { ask = askMacFinish tag; answer = a; input = []; output = []; plain = [] }
+seen (macFinishCheck tag a) = record { ask = askMacFinishCheck tag; answer = a; input = []; output = []; plain = [] }
+seen (abort plain a plain′) = record { ask = askAbort plain; answer = a; input = []; output = []; plain = (plain, plain′) ∷ [] }
+
+abbrev pub asked : Made → Ask
+asked c = seen c .ask
+
 abbrev pub answerOf : Made → ℕ
-answerOf (sealPiece msg out a out′) = a
-answerOf (sealPieceInPlace buf a buf′) = a
-answerOf (openPiece ct plain a plain′) = a
-answerOf (macPiece data′ a) = a
-answerOf (sealFinish tag a tag′) = a
-answerOf (openFinish tag plain a n plain′) = a
-answerOf (macFinish tag a tag′) = a
-answerOf (macFinishCheck tag a) = a
-answerOf (abort plain a plain′) = a
+answerOf c = seen c .answer
+
+abbrev pub input : Made → List ℕ
+input c = seen c .input
+
+abbrev pub output : Made → List ℕ
+output c = seen c .output
 
 -- no lent byte was changed, and the count that is handed back is 0
 abbrev pub LeftAlone : Made → Type 0
@@ -85,34 +99,6 @@ LeftAlone (openFinish tag plain a n plain′) = (plain′ ≡ plain) × (n ≡ 0
 LeftAlone (macFinish tag a tag′) = tag′ ≡ tag
 LeftAlone (macFinishCheck tag a) = Unit {0}
 LeftAlone (abort plain a plain′) = plain′ ≡ plain
-
--- bytes count where the piece was accepted
-abbrev pub counts : ℕ → List ℕ → List ℕ
-counts answer xs = onDone answer (λ a. []) xs
-
--- the input of a piece
-abbrev pub input : Made → List ℕ
-input (sealPiece msg out a out′) = counts a msg
-input (sealPieceInPlace buf a buf′) = counts a buf
-input (openPiece ct plain a plain′) = counts a ct
-input (macPiece data′ a) = counts a data′
-input (sealFinish tag a tag′) = []
-input (openFinish tag plain a n plain′) = []
-input (macFinish tag a tag′) = []
-input (macFinishCheck tag a) = []
-input (abort plain a plain′) = []
-
--- what a sealing piece made of it
-abbrev pub output : Made → List ℕ
-output (sealPiece msg out a out′) = counts a out′
-output (sealPieceInPlace buf a buf′) = counts a buf′
-output (openPiece ct plain a plain′) = []
-output (macPiece data′ a) = []
-output (sealFinish tag a tag′) = []
-output (openFinish tag plain a n plain′) = []
-output (macFinish tag a tag′) = []
-output (macFinishCheck tag a) = []
-output (abort plain a plain′) = []
 
 -- the input of all accepted pieces, joined, and all that sealing made of it
 abbrev pub taken : Calls → List ℕ
@@ -169,15 +155,7 @@ abbrev pub Lent : ℕ → List ℕ → List ℕ → List ℕ → List ℕ → Ty
 Lent room p buf buf′ p′ = ((buf ≡ p) × (p′ ≡ buf′)) ⊎ ((length buf ≢ room) × (p′ ≡ p))
 
 abbrev pub Keeps : ℕ → List ℕ → Made → List ℕ → Type 0
-Keeps room p (sealPiece msg out a out′) p′ = p′ ≡ p
-Keeps room p (sealPieceInPlace buf a buf′) p′ = p′ ≡ p
-Keeps room p (openPiece ct plain a plain′) p′ = Lent room p plain plain′ p′
-Keeps room p (macPiece data′ a) p′ = p′ ≡ p
-Keeps room p (sealFinish tag a tag′) p′ = p′ ≡ p
-Keeps room p (openFinish tag plain a n plain′) p′ = Lent room p plain plain′ p′
-Keeps room p (macFinish tag a tag′) p′ = p′ ≡ p
-Keeps room p (macFinishCheck tag a) p′ = p′ ≡ p
-Keeps room p (abort plain a plain′) p′ = Lent room p plain plain′ p′
+Keeps room p c p′ = elim (seen c .plain) [ [] ↦ p′ ≡ p | b ∷ bs ↦ Lent room p (b .0) (b .1) p′ ]
 
 -- it held p₀ before all calls, holds p behind them, and nothing else touched it
 pub data OneBuffer (p₀ : List ℕ) : Calls → List ℕ → Type 0 where
@@ -188,15 +166,7 @@ pub data OneBuffer (p₀ : List ℕ) : Calls → List ℕ → Type 0 where
 
 -- each call that takes an opening's buffer was lent such a one
 abbrev pub LentOther : ℕ → Made → Type 0
-LentOther room (sealPiece msg out a out′) = Unit {0}
-LentOther room (sealPieceInPlace buf a buf′) = Unit {0}
-LentOther room (openPiece ct plain a plain′) = length plain ≢ room
-LentOther room (macPiece data′ a) = Unit {0}
-LentOther room (sealFinish tag a tag′) = Unit {0}
-LentOther room (openFinish tag plain a n plain′) = length plain ≢ room
-LentOther room (macFinish tag a tag′) = Unit {0}
-LentOther room (macFinishCheck tag a) = Unit {0}
-LentOther room (abort plain a plain′) = length plain ≢ room
+LentOther room c = elim (seen c .plain) [ [] ↦ Unit {0} | b ∷ bs ↦ length (b .0) ≢ room ]
 
 abbrev pub AllLentOther : ℕ → Calls → Type 0
 AllLentOther room none = Unit {0}
@@ -204,15 +174,7 @@ AllLentOther room (cs ▸ c) = AllLentOther room cs × LentOther room c
 
 -- a call that takes an opening's buffer answers 10, and any other call 8
 abbrev pub AnswersOther : Made → Type 0
-AnswersOther (sealPiece msg out a out′) = a ≡ 8
-AnswersOther (sealPieceInPlace buf a buf′) = a ≡ 8
-AnswersOther (openPiece ct plain a plain′) = a ≡ 10
-AnswersOther (macPiece data′ a) = a ≡ 8
-AnswersOther (sealFinish tag a tag′) = a ≡ 8
-AnswersOther (openFinish tag plain a n plain′) = a ≡ 10
-AnswersOther (macFinish tag a tag′) = a ≡ 8
-AnswersOther (macFinishCheck tag a) = a ≡ 8
-AnswersOther (abort plain a plain′) = a ≡ 10
+AnswersOther c = answerOf c ≡ elim (seen c .plain) [ [] ↦ 8 | b ∷ bs ↦ 10 ]
 
 module _ {S : Type 0} (C : Cipher S) (M : Mac S) where
   -- ---- the contract of a call that was made on the session s, and left s′
