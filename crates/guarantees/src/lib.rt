@@ -1,1 +1,1 @@
-// What a user may rely on, in AEGIS-128L's own numbers: theorems about the outcomes of the exported calls. No code.
+// The demands at AEGIS-128L, of the exported functions and of every sequence of calls of them. No code.
