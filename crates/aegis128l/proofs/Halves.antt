@@ -1,13 +1,12 @@
 -- A loop that stores a byte of one list and a byte of another a turn, the second n places on: after n turns they stand one behind the other.
 -- Assumes nothing.
-use Prim.Native.Nat.{ℕ, ◌+◌, ◌-◌, ◌≤◌, ◌<◌, zero-le}
+use Prim.Native.Nat.{ℕ, ◌+◌, ◌-◌, ◌≤◌, ◌<◌}
 use mathlib.Core.Path.{◌≡◌, refl, sym, ap, ◌∙◌}
 use mathlib.Core.List.{List, ◌++◌}
 use native.Mathlib.Decide.{dec_lt}
 use native.Mathlib.Omega.{arith}
-use borrow.Author.Count.{below_none, below_more}
-use lib.ListN.{length, get_or, set, length-append, length-set, get_or-append}
-use lib.Seq.{get_or-set_same, get_or-set_other, get_or-append-add, ext_get_or}
+use lib.ListN.{length, get_or, length-append, get_or-append}
+use lib.Seq.{get_or-append-add, ext_get_or}
 use Rattle.aes.proofs.Block.{block_of}
 use Rattle.aegis128l.specs.View.{joined}
 
@@ -18,37 +17,7 @@ pub record Laid (n : ℕ) (a b : List ℕ) (i : ℕ) (l : List ℕ) : Type 0 whe
   pub low : (k : ℕ) → k < i → get_or l k 0 ≡ get_or a k 0
   pub high : (k : ℕ) → k < i → get_or l (k + n) 0 ≡ get_or b k 0
 
-pub begun : (n : ℕ) (a b l : List ℕ) → length l ≡ n + n → Laid n a b 0 l
-begun n a b l h =
-    record {
-      within = zero-le;
-      long = h;
-      low = below_none (λ k. get_or l k 0 ≡ get_or a k 0);
-      high = below_none (λ k. get_or l (k + n) 0 ≡ get_or b k 0);
-    }
-
 module _ {n : ℕ} {a b : List ℕ} {i : ℕ} {l : List ℕ} (p : Laid n a b i l) where
-  pub stored : i < n → Laid n a b (i + 1) (set (set l i (get_or a i 0)) (i + n) (get_or b i 0))
-  stored h =
-      let long : length l ≡ n + n = p.long in
-      let x = get_or a i 0 in
-      let y = get_or b i 0 in
-      let long' : length (set l i x) ≡ n + n = length-set l i x ∙ long in
-      record {
-        within = omega arith;
-        long = length-set (set l i x) (i + n) y ∙ long';
-        low =
-            below_more (λ k. get_or (set (set l i x) (i + n) y) k 0 ≡ get_or a k 0) i
-            (λ k m. get_or-set_other (set l i x) (i + n) k y 0 (λ q. omega arith) ∙ get_or-set_other l i k x 0 (λ q. omega arith) ∙ p.low k m)
-            (get_or-set_other (set l i x) (i + n) i y 0 (λ q. omega arith) ∙ get_or-set_same l i x 0 (omega arith));
-        high =
-            below_more (λ k. get_or (set (set l i x) (i + n) y) (k + n) 0 ≡ get_or b k 0) i
-            (λ k m.
-            get_or-set_other (set l i x) (i + n) (k + n) y 0 (λ q. omega arith) ∙ get_or-set_other l i (k + n) x 0 (λ q. omega arith)
-            ∙ p.high k m)
-            (get_or-set_same (set l i x) (i + n) y 0 (omega arith));
-      }
-
   module _ (end : n ≤ i) (la : length a ≡ n) (lb : length b ≡ n) where
     at : (k : ℕ) → k < n + n → Dec (k < n) → get_or l k 0 ≡ get_or (a ++ b) k 0
     at k h (yes m) = p.low k (omega arith) ∙ sym (get_or-append a b 0 k (omega arith))

@@ -5,9 +5,11 @@
 --   Rounds       the update as a loop over the eight blocks
 --   Tags         the last updates, and the tag of either size
 --   ByteCipher   bytes give bytes
+--   Linked        the code of the functions that are called from above, in a world of crates
 pub mod Steps
 pub mod OneBlock
 pub mod Halves
 pub mod Rounds
 pub mod Tags
 pub mod ByteCipher
+pub mod Linked

@@ -1,10 +1,10 @@
 -- The update as a loop: each block by a round from its old neighbour, and then the two message blocks.
 -- Assumes nothing.
-use Prim.Native.Nat.{ℕ, ◌+◌, ◌%◌, ◌≤◌, ◌<◌, zero-le}
+use Prim.Native.Nat.{ℕ, ◌+◌, ◌%◌, ◌≤◌, ◌<◌}
 use mathlib.Core.Path.{◌≡◌, ap, ◌∙◌}
 use mathlib.Core.List.{List, [], ◌∷◌}
 use native.Mathlib.Omega.{arith}
-use borrow.Author.Count.{below_none, below_more}
+use borrow.Author.Count.{below_more}
 use lib.ListN.{length, set, length-set}
 use lib.Seq.{get_or-set_same, get_or-set_other}
 use Rattle.aes.specs.declared.AesBlock.{AesBlock}
@@ -21,9 +21,6 @@ pub record Rounds (s n : List AesBlock) (i : ℕ) : Type 0 where
   pub within : i ≤ 8
   pub long : length n ≡ 8
   pub done : (k : ℕ) → k < i → bytes_at n k ≡ rounded s k
-
-pub begun : (s n : List AesBlock) → length n ≡ 8 → Rounds s n 0
-begun s n h = record { within = zero-le; long = h; done = below_none (λ k. bytes_at n k ≡ rounded s k) }
 
 abbrev bytes : AesBlock → List ℕ
 bytes x = x.bytes

@@ -12,9 +12,6 @@ use Rattle.aegis128l.specs.View.{joined}
 
 -- ---- many updates: i of n are done, and the state is s
 
-pub updates-start : (n : ℕ) (s : Blocks) (a b : List ℕ) → updates n s a b ≡ updates (n - 0) s a b
-updates-start n s a b = let k : n ≡ n - 0 = omega arith in ap (λ (j : ℕ). updates j s a b) k
-
 pub updates_turn : (n i : ℕ) (s₀ s s' : Blocks) (a b : List ℕ) → i < n → updates n s₀ a b ≡ updates (n - i) s a b
     → s' ≡ update s a b → updates n s₀ a b ≡ updates (n - (i + 1)) s' a b
 unfolding updates

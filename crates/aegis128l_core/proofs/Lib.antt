@@ -5,9 +5,11 @@
 --   Absorbing   the same for input that is only absorbed, and its end
 --   Streaming   the same for the keystream
 --   Pieces      any input: the rest of a block that has been begun, and then whole blocks
+--   Linked        the code of the functions that are called from above, in a world of crates
 pub mod Laid
 pub mod Within
 pub mod Loop
 pub mod Absorbing
 pub mod Streaming
 pub mod Pieces
+pub mod Linked

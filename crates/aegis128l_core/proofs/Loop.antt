@@ -1,12 +1,10 @@
 -- Whole blocks of a lent buffer, one by one: a machine that starts at the edge of a block goes on by whole blocks.
 -- Assumes nothing.
-use Prim.Native.Nat.{ℕ, zero, ◌+◌, ◌-◌, ◌≤◌}
+use Prim.Native.Nat.{ℕ, zero, ◌-◌, ◌≤◌}
 use mathlib.Core.Path.{◌≡◌, refl, sym, ap, ◌∙◌}
 use mathlib.Core.List.{List, []}
 use native.Mathlib.Nat.{le_of_eq}
-use native.Mathlib.Omega.{arith}
 use lib.ListN.{length, take, drop, length-drop}
-use lib.Seq.{length-take-le}
 use borrow.Rule.Slice.PartMut.{put_mid}
 use Rattle.machine.specs.Bytes.{xors}
 use Rattle.machine.specs.Machine.{Machine, Core, Mode, start, after, out}
@@ -53,12 +51,6 @@ module _ {S : Type 0} (M : Machine S) (m : Mode) where
     blocks_done h = going_done s l i p ((from_nil s).0 ∙ sym e) (from_nil s).1 h
 
 -- ---- the parts that a loop at i lends: a block of n bytes, and what is left
-
-pub block-length : (i n : ℕ) (l : List ℕ) → n ≤ length l - i → length (take ((i + n) - i) (drop i l)) ≡ n
-block-length i n l h =
-    let e : (i + n) - i ≡ n = omega arith in
-    let d : length (drop i l) ≡ length l - i = length-drop i l in
-    length-take-le ((i + n) - i) (drop i l) (omega arith) ∙ e
 
 pub rest-length : (i : ℕ) (l : List ℕ) → length (take (length l - i) (drop i l)) ≡ length l - i
 rest-length i l = ap length (take_rest i l) ∙ length-drop i l

@@ -1,6 +1,8 @@
 // The machine at work: a state, a buffer of one block and how far it is filled. Sealing and opening go through `transform`, in place;
 // associated data and a MAC's data through `absorb`, which only reads. Both go the same way: the rest of a block that has been begun, whole
 // blocks, and the start of a new one.
+#![tactic(auto)]
+
 ghost use Rattle.std.specs.Prelude.{◌≡◌, ◌+◌, ◌<◌, ◌≤◌, ◌++◌, length, take, drop};
 ghost use Rattle.machine.specs.Bytes.{xors};
 ghost use Rattle.machine.specs.Machine as machine;
@@ -14,7 +16,7 @@ ghost use Rattle.aegis128l_core.specs.View.{core_of};
 
 use aegis128l::state::State;
 
-#[derive(Drop)]
+#[derive(Clone, Copy)]
 pub struct Core {
     pub state: State,
     pub buf: [u8; 32],
@@ -125,7 +127,13 @@ impl Core {
     {
         let f = self.fill;
         if mc.len() == 0 {
-            return self;
+            let s = self.state;
+            let b = self.buf;
+            return Core {
+                state: s,
+                buf: b,
+                fill: f,
+            };
         }
         if f == 0 {
             let s = self.state;

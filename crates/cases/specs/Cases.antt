@@ -78,7 +78,7 @@ p12 =
     ((added_to (2 ^ 61 - 2) 1).answer ∷ (added_to (2 ^ 61 - 1) 0).answer ∷ (added_to (2 ^ 61 - 1) 1).answer ∷ [])
     is (0 ∷ 0 ∷ 5 ∷ [])
 
--- P13: from an all_zero state, after absorbing 32 zeros, the keystream is 32 bytes of 63
+-- P13: from an all-zero state, after absorbing 32 zeros, the keystream is 32 bytes of 63
 abbrev p13 : Case
 p13 = keystream (absorb (replicate 8 (zeros 16)) (zeros 32)) is replicate 32 0x63
 

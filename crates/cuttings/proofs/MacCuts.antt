@@ -55,7 +55,7 @@ module _ (s : Session Blocks) (data' : List ℕ) where
             ∙ ap (fed (silent machine) enc s) (sym (parts_join i e data' h));
       }
 
-  pub maced-all : (n : ℕ) {tag : List ℕ} (t : Session Blocks) → length data' ≤ n → Macing s (take n data') t → tag ≡ session_mac aegis128l mac_of_aegis128l t
+  maced-all : (n : ℕ) {tag : List ℕ} (t : Session Blocks) → length data' ≤ n → Macing s (take n data') t → tag ≡ session_mac aegis128l mac_of_aegis128l t
       → MacsTo s data' tag
   maced-all n t h p e =
       record { end = t; pieces = subst (λ (x : List ℕ). Macing s x t) (take_all n data' h) p; tagged = e }

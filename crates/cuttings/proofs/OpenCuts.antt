@@ -52,7 +52,7 @@ module _ (s : Session Blocks) (ct : List ℕ) where
             ∙ ap (opened machine dec s) (sym (parts_join i e ct h));
       }
 
-  pub opened-all : (n : ℕ) {tag : List ℕ} (t : Session Blocks) → length ct ≤ n → Opening s (take n ct) t → tag ≡ session_tag aegis128l t
+  opened-all : (n : ℕ) {tag : List ℕ} (t : Session Blocks) → length ct ≤ n → Opening s (take n ct) t → tag ≡ session_tag aegis128l t
       → Accepts s ct tag
   opened-all n t h p e =
       record { end = t; pieces = subst (λ (x : List ℕ). Opening s x t) (take_all n ct h) p; tagged = e }

@@ -70,7 +70,7 @@ module _ (s : Session Blocks) (msg ct : List ℕ) where
             ∙ ap (out machine enc (core s)) (sym (parts_join i e msg h));
       }
 
-  pub sealed-all : (n : ℕ) {tag : List ℕ} (t : Session Blocks) → length msg ≤ n → length ct ≡ length msg → Sealing s (take n msg) (take n ct) t
+  sealed-all : (n : ℕ) {tag : List ℕ} (t : Session Blocks) → length msg ≤ n → length ct ≡ length msg → Sealing s (take n msg) (take n ct) t
       → tag ≡ session_tag aegis128l t → SealsTo s msg ct tag
   sealed-all n t h k p e = record {
     end = t;

@@ -1,4 +1,6 @@
 // A text through a session, cut at two places (one, where they are equal) and after every byte.
+#![tactic(auto)]
+
 ghost use Rattle.std.specs.Prelude.{◌≡◌, false};
 
 use session::Session;
@@ -11,7 +13,7 @@ pub mod sealing;
 pub const LONGEST: usize = 65;
 
 // The session after a piece, and whether the piece did what was recorded.
-#[derive(Drop)]
+#[derive(Clone, Copy)]
 pub struct Step {
     pub equal: bool,
     pub session: Session,

@@ -1,5 +1,5 @@
 -- A trace of the code: calls of the exported functions (crates/thin) on the caller's own struct, each of which met its contract
--- (Contracts.antt), each lent the struct as the last one left it. A start comes first: it writes the struct, whatever that held.
+-- (CallContracts.antt), each lent the struct as the last one left it. A start comes first: it writes the struct, whatever that held.
 -- Assumes nothing.
 use Rattle.std.specs.Prelude.{ℕ, List, length}
 use Rattle.promises.specs.Met.{SealStartMet, OpenStartMet, MacStartMet}

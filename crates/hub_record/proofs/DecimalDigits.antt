@@ -113,7 +113,7 @@ places rest zero h p = absurd (omega arith)
 places rest (suc k) h p = omega arith
 
 module _ {n rest at : ℕ} {end out : List ℕ} (p : Written n rest at end out) (more : 0 < rest) where
-  pub written-place : 11 < at
+  written-place : 11 < at
   written-place = omega (arith, places rest (at - 11) p.small more, p.low)
 
   pub written_turn : (j : ℕ) → j + 1 ≡ at → Written n (rest / 10) j end (set out j (48 + rest % 10))
@@ -133,6 +133,3 @@ module _ {n rest at : ℕ} {end out : List ℕ} (p : Written n rest at end out) 
             ∙ append_assoc (tens (rest / 10)) (last rest) (drop (suc j) out)
             ∙ ap (λ (l : List ℕ). tens (rest / 10) ++ l) (sym (stored out j (48 + rest % 10) (omega arith)));
       }
-
-pub written-end : {n rest at : ℕ} {end out : List ℕ} → Written n rest at end out → rest ≡ 0 → drop at out ≡ decimal n ++ end
-written-end p z = sym (p.text ∙ rw z refl)

@@ -1,4 +1,6 @@
 // The nonce rule and the hub record of document 01, on lent slices. No function that is called from outside asks anything of its caller.
+#![tactic(auto)]
+
 mod line;
 pub mod nonce;
 pub mod opening;

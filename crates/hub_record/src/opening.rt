@@ -7,7 +7,7 @@ ghost use Rattle.hub_record.specs.View.{record_left};
 use crate::shape::shape;
 
 // The answer, and where the plaintext stands; 0 and 0 beside a refusal.
-#[derive(Drop)]
+#[derive(Clone, Copy)]
 pub struct Opened {
     pub answer: u8,
     pub start: usize,
@@ -15,7 +15,7 @@ pub struct Opened {
 }
 
 // What the head says: the tag size and the AD length.
-#[derive(Drop)]
+#[derive(Clone, Copy)]
 struct Head {
     tag: u8,
     ad: u16,
@@ -71,6 +71,7 @@ fn open_parts(input: &mut [u8], a: usize, e: usize) -> u8
 
 // The record in `input`, opened in place. With 0 the plaintext stands where the ciphertext stood, with 7 that place is 0xaa, with 1 and 11
 // nothing is changed; no other byte changes.
+#[tactic(auto, using(crate::proofs::RecordAnswers::shape_refused))]
 pub fn open_record(input: &mut [u8]) -> Opened
     ensures { record_left result input.new ≡ open_record_of input.old }
 {

@@ -7,7 +7,7 @@ use crate::line::line;
 use crate::opening::open_record;
 
 // Where the reply stands in the buffer.
-#[derive(Drop)]
+#[derive(Clone, Copy)]
 pub struct Part {
     pub start: usize,
     pub count: usize,

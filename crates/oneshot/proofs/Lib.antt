@@ -4,10 +4,12 @@
 --   SealLeaves    what seal leaves
 --   OpenLeaves    what open leaves
 --   OtherLeaves   what the streams and the MAC leave
---   Expected      the tag that is expected, and the fill of a machine
+--   Expected      sizes that are passed on, and the fill of a machine
+--   Linked        the code of the functions that are called from above, in a world of crates
 pub mod Texts
 pub mod Laid
 pub mod SealLeaves
 pub mod OpenLeaves
 pub mod OtherLeaves
 pub mod Expected
+pub mod Linked

@@ -1,4 +1,6 @@
 // The one-shots, on byte slices; crates/thin exports them. Each result is an answer of document 01. The tag size is the length of the tag buffer. A call asks nothing of its caller; one equation says what it answers and what every lent buffer holds.
+#![tactic(auto)]
+
 ghost use Rattle.std.specs.Prelude.{◌≡◌, true, ◌≤◌, length};
 ghost use Rattle.lent.specs.Lent.{same};
 ghost use Rattle.answers.specs.Answers.{tag_size, limit};

@@ -16,7 +16,7 @@ use Rattle.promises.specs.SessionCalls.{Handed, Wrote, Opened}
 use Rattle.promises.specs.Session.{sealing, opening, macing, Session, live, abort_live, if_opening, ended, session_tag}
 use Rattle.promises.specs.SessionCalls as session
 use Rattle.promises.specs.Trace.{Made, seal_piece, seal_piece_in_place, open_piece, mac_piece, seal_finish, open_finish, mac_finish, mac_finish_check, abort}
-use Rattle.promises.specs.Trace.{Calls, ◌▸◌, answer_of, LeftAlone, Ended, Over, Met, Trace, made}
+use Rattle.promises.specs.Trace.{Calls, ◌▸◌, answer_of, LeftAlone, Ended, Over, Met, Trace, at_start, made}
 use Rattle.promises.proofs.SessionLive.{ended_not_live, ended_not_abortable}
 use Rattle.promises.proofs.SessionLadders as ladder
 use Rattle.promises.proofs.SessionCalls as calls
@@ -168,6 +168,7 @@ module _ {S : Type 0} (C : Cipher S) (M : Mac S) where
 
   -- so behind an end
   pub stays-over : {s₀ s : Session S} {cs : Calls} → Trace C M s₀ cs s → Over cs → s ≡ ended C
+  stays-over at_start z = elim z [ ]
   stays-over (made {s = s} {s' = s'} t c m) (inl o) = (at-over c (stays-over t o) m).2
   stays-over (made {s = s} {s' = s'} t c m) (inr z) = ended_is_over s s' c m z
 

@@ -252,11 +252,11 @@ module _ {S : Type 0} (C : Cipher S) (M : Mac S) where
   walk_any p n at_start = begins
   walk_any p n (made {s = s} t c m) = walks (walk_any p n t) c m (fits_any s p c (λ e. n (opener t e).0))
 
-  walk_one : {p₀ p : List ℕ} {s₀ s : Session S} {cs : Calls} → (s₀.mark ≡ opening → s₀.room ≡ length p₀) → Trace C M s₀ cs s → OneBuffer p₀ cs p
+  walk_one : {p₀ : List ℕ} {s₀ : Session S} {p : List ℕ} {s : Session S} {cs : Calls} → (s₀.mark ≡ opening → s₀.room ≡ length p₀) → Trace C M s₀ cs s → OneBuffer p₀ cs p
       → Walk s₀ p₀ cs s p
   walk_one r at_start at_first = begins
   walk_one {p₀ = p₀} r (made {s = s} t c m) (kept {p = p} {p' = p'} b _ k) =
-      walks (walk_one r t b) c m (fits_one s (length p₀) p c p' (λ e. let o = opener t e in o.1 ∙ r o.0) k)
+      walks (walk_one {p = p} r t b) c m (fits_one s (length p₀) p c p' (λ e. let o = opener t e in o.1 ∙ r o.0) k)
 
   -- ---- one call
 
@@ -448,7 +448,7 @@ module _ {S : Type 0} (C : Cipher S) (M : Mac S) where
             (answer_is c (hands C M (world s p cs) d) h i.answered);
       }
 
-  walk_is_run : {s₀ s : Session S} {p₀ p : List ℕ} {cs : Calls} → Walk s₀ p₀ cs s p → IsRun s₀ p₀ cs s p
+  walk_is_run : {s₀ : Session S} {p₀ : List ℕ} {s : Session S} {p : List ℕ} {cs : Calls} → Walk s₀ p₀ cs s p → IsRun s₀ p₀ cs s p
   unfolding run results
   walk_is_run begins = record { run_of = []; stands = refl; answered = no_results }
   walk_is_run (walks {cs = cs} {s = s} {s' = s'} {p = p} {p' = p'} t c m f) = one_more c (walk_is_run t) (steps cs s s' p p' c m f)

@@ -12,7 +12,7 @@ use Rattle.promises.specs.Texts.{onto}
 use Rattle.promises.specs.SessionCalls.{open_start}
 use Rattle.promises.specs.Session.{ended}
 use Rattle.promises.specs.Run.{World, begun, step, hands, open_run}
-use Rattle.promises.specs.Trace.{Made, open_finish, abort, Calls, none, ◌▸◌, taken, Refused, OpenSession}
+use Rattle.promises.specs.Trace.{Made, seal_piece, seal_piece_in_place, open_piece, mac_piece, seal_finish, open_finish, mac_finish, mac_finish_check, abort, Calls, none, ◌▸◌, taken, Refused, OpenSession}
 use Rattle.promises.proofs.SessionCalls.{Ends}
 use Rattle.promises.proofs.Runs.{run_snoc, over-stays}
 use Rattle.promises.proofs.RunsErasing as erasing
@@ -83,6 +83,13 @@ module _ {S : Type 0} (C : Cipher S) (M : Mac S) (key nonce ad : List ℕ) (n : 
       let i = at-end C M key nonce ad n p₀ (before C M key nonce ad n p₀ t) in
       let on = runs_on t (inl z) in
       wiped-at (erasing.abort_erases C M key nonce ad n p₀ i.run_of [] (on.1 ∙ z)) (count_is t) on.0
+  erased_by (cs ▸ seal_piece msg out a out') {p} t (inr z) = elim z [ ]
+  erased_by (cs ▸ seal_piece_in_place buf a buf') {p} t (inr z) = elim z [ ]
+  erased_by (cs ▸ open_piece ct plain a plain') {p} t (inr z) = elim z [ ]
+  erased_by (cs ▸ mac_piece data' a) {p} t (inr z) = elim z [ ]
+  erased_by (cs ▸ seal_finish tag a tag') {p} t (inr z) = elim z [ ]
+  erased_by (cs ▸ mac_finish tag a tag') {p} t (inr z) = elim z [ ]
+  erased_by (cs ▸ mac_finish_check tag a) {p} t (inr z) = elim z [ ]
 
   -- ---- what is said of the calls and the buffer alone
 

@@ -25,7 +25,7 @@ pub const LONGEST: usize = 512;
 pub const LONGEST_TAG: usize = 32;
 
 // Where the parts of a record start, and where it ends.
-#[derive(Drop)]
+#[derive(Clone, Copy)]
 pub struct Layout {
     pub msg: usize,
     pub ct: usize,

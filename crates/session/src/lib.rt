@@ -1,5 +1,7 @@
 // A session takes a message in pieces. It goes in by value and comes back by value: here are the record and the starts, in crates
 // `session_pieces` and `session_finishes` what goes on with it. Crate `thin` has the form in which the caller lends it.
+#![tactic(auto)]
+
 ghost use Rattle.std.specs.Prelude.{◌≡◌, true};
 ghost use Rattle.promises.specs.Session as promise;
 ghost use Rattle.aegis128l.specs.Cipher.{aegis128l};
@@ -21,7 +23,7 @@ pub const MACING: usize = 2;
 pub const OVER: usize = 3;
 
 #[repr(C)]
-#[derive(Drop)]
+#[derive(Clone, Copy)]
 pub struct Session {
     pub blocks: [AesBlock; 8],
     pub buf: [u8; 32],
@@ -36,7 +38,7 @@ pub struct Session {
 
 // What a call hands back: its answer, and the session to go on with.
 #[repr(C)]
-#[derive(Drop)]
+#[derive(Clone, Copy)]
 pub struct Piece {
     pub answer: u8,
     pub session: Session,
@@ -44,14 +46,14 @@ pub struct Piece {
 
 // What the finish of an opening tells: its answer, and how many bytes it releases.
 #[repr(C)]
-#[derive(Drop)]
+#[derive(Clone, Copy)]
 pub struct Opened {
     pub answer: u8,
     pub count: usize,
 }
 
 #[repr(C)]
-#[derive(Drop)]
+#[derive(Clone, Copy)]
 pub struct Finish {
     pub opened: Opened,
     pub session: Session,

@@ -1,4 +1,6 @@
 // Finishes and aborts: they end a session, which then holds zeros and the mark that it is over.
+#![tactic(auto)]
+
 ghost use Rattle.std.specs.Prelude.{◌≡◌, true, eqb, length};
 ghost use Rattle.lent.specs.Lent.{same, wiped};
 ghost use Rattle.promises.specs.Session as promise;

@@ -34,15 +34,6 @@ module _ {S : Type 0} (M : Machine S) (m : Mode) (s t : Session S) (k c : Core S
   pub taken : t ≡ with_core s (after M m (core s) xs)
   taken = with-c ∙ ap (with_core s) (fed ∙ ap (λ (x : Core S). after M m x xs) of-s)
 
-  -- bytes that became ys in place
-  pub changed : (ys : List ℕ) → ys ≡ out M m k xs → (t ≡ with_core s (after M m (core s) xs)) × (ys ≡ out M m (core s) xs)
-  changed ys e = (taken, e ∙ ap (λ (x : Core S). out M m x xs) of-s)
-
--- and of bytes that were laid over others
-pub of_copy : {T U : Type 0} (F : List ℕ → T) (G : List ℕ → U) (xs zs : List ℕ) (t : T) (u : U)
-    → zs ≡ xs → (t ≡ F zs) × (u ≡ G zs) → (t ≡ F xs) × (u ≡ G xs)
-of_copy F G xs zs t u z p = (p.0 ∙ ap F z, p.1 ∙ ap G z)
-
 -- ---- the part of a buffer from w to e, over which as many bytes are laid
 
 module _ (w e : ℕ) (xs buf : List ℕ) (ends : e ≡ w + length xs) (within : e ≤ length buf) where

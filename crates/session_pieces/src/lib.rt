@@ -1,4 +1,6 @@
 // Pieces: a refused one changes nothing and is not counted.
+#![tactic(auto)]
+
 ghost use Rattle.std.specs.Prelude.{◌≡◌, ◌<◌};
 ghost use Rattle.lent.specs.Lent.{over};
 ghost use Rattle.promises.specs.Met.{SealPieceMet, SealPieceInPlaceMet, OpenPieceMet, MacPieceMet};

@@ -1,5 +1,8 @@
-// All that is exported to C and Rust: the one-shots (once.rt), and here the thin form of sessions: the caller lends its session, and each call changes it in place. Each calls the function by value. All are proved
-// by one walk over what the compiler makes of them (proofs/Walk.antt), for any struct that is lent.
+// All that is exported to C and Rust (crate thin_c exports it): the one-shots (once.rt), and here the thin form of sessions: the caller lends its
+// session, and each call changes it in place. Each calls the function by value, and promises of the lent session what that one promises of the one
+// that it hands back.
+#![tactic(auto)]
+
 ghost use Rattle.promises.specs.Met.{SealStartMet, OpenStartMet, MacStartMet, SealPieceMet, SealPieceInPlaceMet, SealFinishMet, OpenPieceMet, OpenFinishMet, AbortMet, MacPieceMet, MacFinishMet, MacFinishCheckMet};
 ghost use Rattle.aegis128l.specs.Cipher.{aegis128l, mac_of_aegis128l};
 ghost use Rattle.session.specs.View.{session_of};
@@ -9,8 +12,7 @@ use session::{Opened, Session};
 pub mod once;
 
 // The starts only write the lent session: what it held does not matter.
-#[unsafe(no_mangle)]
-pub extern "C" fn aegis128l_seal_start(
+pub fn aegis128l_seal_start(
     s: &mut Session,
     key: &[u8],
     nonce: &[u8],
@@ -26,8 +28,7 @@ pub extern "C" fn aegis128l_seal_start(
 }
 
 // `room` is the length of the plaintext buffer, which is lent at each call.
-#[unsafe(no_mangle)]
-pub extern "C" fn aegis128l_open_start(
+pub fn aegis128l_open_start(
     s: &mut Session,
     key: &[u8],
     nonce: &[u8],
@@ -43,13 +44,7 @@ pub extern "C" fn aegis128l_open_start(
     r.answer
 }
 
-#[unsafe(no_mangle)]
-pub extern "C" fn aegis128l_mac_start(
-    s: &mut Session,
-    key: &[u8],
-    nonce: &[u8],
-    tag_size: usize,
-) -> u8
+pub fn aegis128l_mac_start(s: &mut Session, key: &[u8], nonce: &[u8], tag_size: usize) -> u8
     ensures { MacStartMet aegis128l key.now nonce.now
         tag_size result (session_of s.new) }
 {
@@ -58,8 +53,7 @@ pub extern "C" fn aegis128l_mac_start(
     r.answer
 }
 
-#[unsafe(no_mangle)]
-pub extern "C" fn aegis128l_seal_piece(s: &mut Session, msg: &[u8], out: &mut [u8]) -> u8
+pub fn aegis128l_seal_piece(s: &mut Session, msg: &[u8], out: &mut [u8]) -> u8
     ensures { SealPieceMet aegis128l (session_of s.old) msg.now out.old
         result (session_of s.new) out.new }
 {
@@ -68,8 +62,7 @@ pub extern "C" fn aegis128l_seal_piece(s: &mut Session, msg: &[u8], out: &mut [u
     r.answer
 }
 
-#[unsafe(no_mangle)]
-pub extern "C" fn aegis128l_seal_piece_in_place(s: &mut Session, buf: &mut [u8]) -> u8
+pub fn aegis128l_seal_piece_in_place(s: &mut Session, buf: &mut [u8]) -> u8
     ensures { SealPieceInPlaceMet aegis128l (session_of s.old) buf.old
         result (session_of s.new) buf.new }
 {
@@ -78,8 +71,7 @@ pub extern "C" fn aegis128l_seal_piece_in_place(s: &mut Session, buf: &mut [u8])
     r.answer
 }
 
-#[unsafe(no_mangle)]
-pub extern "C" fn aegis128l_seal_finish(s: &mut Session, tag: &mut [u8]) -> u8
+pub fn aegis128l_seal_finish(s: &mut Session, tag: &mut [u8]) -> u8
     ensures { SealFinishMet aegis128l (session_of s.old) tag.old
         result (session_of s.new) tag.new }
 {
@@ -88,8 +80,7 @@ pub extern "C" fn aegis128l_seal_finish(s: &mut Session, tag: &mut [u8]) -> u8
     r.answer
 }
 
-#[unsafe(no_mangle)]
-pub extern "C" fn aegis128l_open_piece(s: &mut Session, ct: &[u8], plain: &mut [u8]) -> u8
+pub fn aegis128l_open_piece(s: &mut Session, ct: &[u8], plain: &mut [u8]) -> u8
     ensures { OpenPieceMet aegis128l (session_of s.old) ct.now plain.old
         result (session_of s.new) plain.new }
 {
@@ -98,8 +89,7 @@ pub extern "C" fn aegis128l_open_piece(s: &mut Session, ct: &[u8], plain: &mut [
     r.answer
 }
 
-#[unsafe(no_mangle)]
-pub extern "C" fn aegis128l_open_finish(s: &mut Session, tag: &[u8], plain: &mut [u8]) -> Opened
+pub fn aegis128l_open_finish(s: &mut Session, tag: &[u8], plain: &mut [u8]) -> Opened
     ensures { OpenFinishMet aegis128l (session_of s.old) tag.now plain.old
         result.answer result.count (session_of s.new) plain.new }
 {
@@ -108,8 +98,7 @@ pub extern "C" fn aegis128l_open_finish(s: &mut Session, tag: &[u8], plain: &mut
     r.opened
 }
 
-#[unsafe(no_mangle)]
-pub extern "C" fn aegis128l_abort(s: &mut Session, plain: &mut [u8]) -> u8
+pub fn aegis128l_abort(s: &mut Session, plain: &mut [u8]) -> u8
     ensures { AbortMet aegis128l (session_of s.old) plain.old
         result (session_of s.new) plain.new }
 {
@@ -118,8 +107,7 @@ pub extern "C" fn aegis128l_abort(s: &mut Session, plain: &mut [u8]) -> u8
     r.answer
 }
 
-#[unsafe(no_mangle)]
-pub extern "C" fn aegis128l_mac_piece(s: &mut Session, data: &[u8]) -> u8
+pub fn aegis128l_mac_piece(s: &mut Session, data: &[u8]) -> u8
     ensures { MacPieceMet aegis128l (session_of s.old) «data».now
         result (session_of s.new) }
 {
@@ -128,8 +116,7 @@ pub extern "C" fn aegis128l_mac_piece(s: &mut Session, data: &[u8]) -> u8
     r.answer
 }
 
-#[unsafe(no_mangle)]
-pub extern "C" fn aegis128l_mac_finish(s: &mut Session, tag: &mut [u8]) -> u8
+pub fn aegis128l_mac_finish(s: &mut Session, tag: &mut [u8]) -> u8
     ensures { MacFinishMet aegis128l mac_of_aegis128l (session_of s.old) tag.old
         result (session_of s.new) tag.new }
 {
@@ -138,8 +125,7 @@ pub extern "C" fn aegis128l_mac_finish(s: &mut Session, tag: &mut [u8]) -> u8
     r.answer
 }
 
-#[unsafe(no_mangle)]
-pub extern "C" fn aegis128l_mac_finish_check(s: &mut Session, tag: &[u8]) -> u8
+pub fn aegis128l_mac_finish_check(s: &mut Session, tag: &[u8]) -> u8
     ensures { MacFinishCheckMet aegis128l mac_of_aegis128l (session_of s.old) tag.now
         result (session_of s.new) }
 {

@@ -1,9 +1,8 @@
-// The one-shots, exported beside the sessions: all that is exported comes out of one crate, so that the archive holds each function below once.
+// The one-shots, which crate thin_c exports beside the sessions.
 ghost use Rattle.promises.specs.Met.{SealMet, SealInPlaceMet, OpenMet, OpenInPlaceMet, StreamMet, StreamXorMet, MacMet, MacCheckMet};
 ghost use Rattle.aegis128l.specs.Cipher.{aegis128l, mac_of_aegis128l};
 
-#[unsafe(no_mangle)]
-pub extern "C" fn aegis128l_seal(
+pub fn aegis128l_seal(
     key: &[u8],
     nonce: &[u8],
     ad: &[u8],
@@ -17,8 +16,7 @@ pub extern "C" fn aegis128l_seal(
     oneshot::aegis128l_seal(key, nonce, ad, msg, out, tag)
 }
 
-#[unsafe(no_mangle)]
-pub extern "C" fn aegis128l_seal_in_place(
+pub fn aegis128l_seal_in_place(
     key: &[u8],
     nonce: &[u8],
     ad: &[u8],
@@ -31,8 +29,7 @@ pub extern "C" fn aegis128l_seal_in_place(
     oneshot::aegis128l_seal_in_place(key, nonce, ad, buf, tag)
 }
 
-#[unsafe(no_mangle)]
-pub extern "C" fn aegis128l_open(
+pub fn aegis128l_open(
     key: &[u8],
     nonce: &[u8],
     ad: &[u8],
@@ -46,8 +43,7 @@ pub extern "C" fn aegis128l_open(
     oneshot::aegis128l_open(key, nonce, ad, ct, tag, out)
 }
 
-#[unsafe(no_mangle)]
-pub extern "C" fn aegis128l_open_in_place(
+pub fn aegis128l_open_in_place(
     key: &[u8],
     nonce: &[u8],
     ad: &[u8],
@@ -60,32 +56,28 @@ pub extern "C" fn aegis128l_open_in_place(
     oneshot::aegis128l_open_in_place(key, nonce, ad, buf, tag)
 }
 
-#[unsafe(no_mangle)]
-pub extern "C" fn aegis128l_mac(key: &[u8], nonce: &[u8], data: &[u8], tag: &mut [u8]) -> u8
+pub fn aegis128l_mac(key: &[u8], nonce: &[u8], data: &[u8], tag: &mut [u8]) -> u8
     ensures { MacMet aegis128l mac_of_aegis128l key.now nonce.now «data».now tag.old
         result tag.new }
 {
     oneshot::mac::aegis128l_mac(key, nonce, data, tag)
 }
 
-#[unsafe(no_mangle)]
-pub extern "C" fn aegis128l_mac_check(key: &[u8], nonce: &[u8], data: &[u8], tag: &[u8]) -> u8
+pub fn aegis128l_mac_check(key: &[u8], nonce: &[u8], data: &[u8], tag: &[u8]) -> u8
     ensures { MacCheckMet aegis128l mac_of_aegis128l key.now nonce.now «data».now tag.now
         result }
 {
     oneshot::mac::aegis128l_mac_check(key, nonce, data, tag)
 }
 
-#[unsafe(no_mangle)]
-pub extern "C" fn aegis128l_stream(key: &[u8], nonce: &[u8], out: &mut [u8]) -> u8
+pub fn aegis128l_stream(key: &[u8], nonce: &[u8], out: &mut [u8]) -> u8
     ensures { StreamMet aegis128l key.now nonce.now out.old
         result out.new }
 {
     oneshot::stream::aegis128l_stream(key, nonce, out)
 }
 
-#[unsafe(no_mangle)]
-pub extern "C" fn aegis128l_stream_xor(key: &[u8], nonce: &[u8], buf: &mut [u8]) -> u8
+pub fn aegis128l_stream_xor(key: &[u8], nonce: &[u8], buf: &mut [u8]) -> u8
     ensures { StreamXorMet aegis128l key.now nonce.now buf.old
         result buf.new }
 {

@@ -1,4 +1,4 @@
--- Tallies      what one record more adds to a tally
--- Walking      a section after one step more, and why its walk ends
+-- Tallies      no count of a tally grows faster than the place in the list
+-- Walking      a section after one step more
 pub mod Tallies
 pub mod Walking

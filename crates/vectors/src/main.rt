@@ -1,20 +1,26 @@
 // Replays the recorded list, which it reads from standard input: published vectors and the Rust's answers, each record through the one-shots,
 // and short ones through the sessions, cut everywhere. It counts what was equal, and stops at the first record that is not.
+#![tactic(auto)]
+
 ghost use Rattle.std.specs.Prelude.{◌+◌, ◌≤◌, ◌<◌, ◌≡◌, true, length};
 ghost use Rattle.vectors.specs.Walk.{Small};
 
 use crate::replay::{Section, Tally};
-use libc::{STDIN_FILENO, STDOUT_FILENO};
 
 mod records;
 mod replay;
 
+// The numbers of standard input and standard output.
+const STDIN: i32 = 0;
+
+const STDOUT: i32 = 1;
+
 fn say(text: &[u8]) {
-    io::write_all(STDOUT_FILENO, text);
+    io::write_all(STDOUT, text);
 }
 
 fn say_number(n: usize) {
-    io::print_decimal(STDOUT_FILENO, n as u64);
+    io::print_decimal(STDOUT, n as u64);
 }
 
 fn say_tally(t: Tally) {
@@ -118,6 +124,6 @@ fn room() -> [u8; 131072]
 
 fn main() {
     let mut input = room();
-    let n = io::read_full(STDIN_FILENO, &mut input);
+    let n = io::read_full(STDIN, &mut input);
     run(&input[..n]);
 }

@@ -9,7 +9,7 @@ ghost use Rattle.vectors.specs.Walk.{Holds};
 use recorded::list::Layout;
 
 // Whether all went as recorded, and how many cuttings that was.
-#[derive(Drop)]
+#[derive(Clone, Copy)]
 pub struct Replayed {
     pub equal: bool,
     pub cuttings: usize,

@@ -16,7 +16,7 @@ pub const DIFFERS: u8 = 2;
 pub const MALFORMED: u8 = 3;
 
 // How many records of each kind were equal, and how many cuttings.
-#[derive(Drop)]
+#[derive(Clone, Copy)]
 pub struct Tally {
     pub seals: usize,
     pub refusals: usize,
@@ -28,7 +28,7 @@ pub struct Tally {
 }
 
 // A section up to place `at` of the list.
-#[derive(Drop)]
+#[derive(Clone, Copy)]
 pub struct Section {
     pub state: u8,
     pub at: usize,

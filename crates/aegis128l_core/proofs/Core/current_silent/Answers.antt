@@ -1,0 +1,12 @@
+-- `Core::current_silent` meets its contract: zeros at fill 0, and else the buffer.
+use Rattle.std.proofs.Common.{arith, sym}
+use Rattle.machine.proofs.Silent.{silent-fresh, silent-begun}
+use Rattle.aegis128l.specs.Aegis128L as draft
+use Rattle.aegis128l_core.specs.View.{core_of}
+use Rattle.aegis128l_core.proofs.Core.current_silent.Goals as goal
+
+pub returns-then-f-eq0 : goal.returns-then-f-eq0
+returns-then-f-eq0 c = sym (silent-fresh draft.machine (core_of c.args.self) c.if-f-eq0.true)
+
+pub returns : goal.returns
+returns c = sym (silent-begun draft.machine (core_of c.args.self) (omega arith))

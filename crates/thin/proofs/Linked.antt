@@ -1,0 +1,183 @@
+-- A world of crates that has this crate's table of functions, and those of the crates below, has the code of each function that is called from above, and of all that it
+-- calls. The table is the one that Rattle makes of src/.
+-- Assumes nothing.
+use Rattle.std.proofs.Common.{true}
+use prog.Linked.{Tree, World, Holds, in_world}
+use prog.LinkedThreads.{HasT}
+use Rattle.aes.proofs.Linked as aes
+use Rattle.answers.proofs.Linked as answers
+use Rattle.lent.proofs.Linked as lent
+use Rattle.aegis128l.proofs.Linked as aegis128l
+use Rattle.aegis128l_core.proofs.Linked as aegis128l_core
+use Rattle.oneshot.proofs.Linked as oneshot
+use Rattle.session.proofs.Linked as session
+use Rattle.session_pieces.proofs.Linked as session_pieces
+use Rattle.session_finishes.proofs.Linked as session_finishes
+use Rattle.thin.proofs.TheLink as link
+use Rattle.thin.proofs.aegis128l_abort.Symbol as aegis128l_abort-symbol
+use Rattle.thin.proofs.aegis128l_mac_finish.Symbol as aegis128l_mac_finish-symbol
+use Rattle.thin.proofs.aegis128l_mac_finish_check.Symbol as aegis128l_mac_finish_check-symbol
+use Rattle.thin.proofs.aegis128l_mac_piece.Symbol as aegis128l_mac_piece-symbol
+use Rattle.thin.proofs.aegis128l_mac_start.Symbol as aegis128l_mac_start-symbol
+use Rattle.thin.proofs.aegis128l_open_finish.Symbol as aegis128l_open_finish-symbol
+use Rattle.thin.proofs.aegis128l_open_piece.Symbol as aegis128l_open_piece-symbol
+use Rattle.thin.proofs.aegis128l_open_start.Symbol as aegis128l_open_start-symbol
+use Rattle.thin.proofs.aegis128l_seal_finish.Symbol as aegis128l_seal_finish-symbol
+use Rattle.thin.proofs.aegis128l_seal_piece.Symbol as aegis128l_seal_piece-symbol
+use Rattle.thin.proofs.aegis128l_seal_piece_in_place.Symbol as aegis128l_seal_piece_in_place-symbol
+use Rattle.thin.proofs.aegis128l_seal_start.Symbol as aegis128l_seal_start-symbol
+use Rattle.thin.proofs.once.aegis128l_mac.Symbol as once_aegis128l_mac-symbol
+use Rattle.thin.proofs.once.aegis128l_mac_check.Symbol as once_aegis128l_mac_check-symbol
+use Rattle.thin.proofs.once.aegis128l_open.Symbol as once_aegis128l_open-symbol
+use Rattle.thin.proofs.once.aegis128l_open_in_place.Symbol as once_aegis128l_open_in_place-symbol
+use Rattle.thin.proofs.once.aegis128l_seal.Symbol as once_aegis128l_seal-symbol
+use Rattle.thin.proofs.once.aegis128l_seal_in_place.Symbol as once_aegis128l_seal_in_place-symbol
+use Rattle.thin.proofs.once.aegis128l_stream.Symbol as once_aegis128l_stream-symbol
+use Rattle.thin.proofs.once.aegis128l_stream_xor.Symbol as once_aegis128l_stream_xor-symbol
+
+pub table : Tree
+table = link.table
+
+module _ (W : World) (aes-held : Holds W "aes" aes.table) (answers-held : Holds W "answers" answers.table) (lent-held : Holds W "lent" lent.table) (aegis128l-held : Holds W "aegis128l" aegis128l.table) (aegis128l_core-held : Holds W "aegis128l_core" aegis128l_core.table) (oneshot-held : Holds W "oneshot" oneshot.table) (session-held : Holds W "session" session.table) (session_pieces-held : Holds W "session_pieces" session_pieces.table) (session_finishes-held : Holds W "session_finishes" session_finishes.table) (held : Holds W "thin" table) where
+  below : link.Below W
+  below = (
+    oneshot.aegis128l_open W aes-held answers-held lent-held aegis128l-held aegis128l_core-held oneshot-held,
+    (
+      oneshot.aegis128l_open_in_place W aes-held answers-held lent-held aegis128l-held aegis128l_core-held oneshot-held,
+      (
+        oneshot.aegis128l_seal W aes-held answers-held lent-held aegis128l-held aegis128l_core-held oneshot-held,
+        (
+          oneshot.aegis128l_seal_in_place W aes-held answers-held lent-held aegis128l-held aegis128l_core-held oneshot-held,
+          (
+            oneshot.mac_aegis128l_mac W aes-held answers-held lent-held aegis128l-held aegis128l_core-held oneshot-held,
+            (
+              oneshot.mac_aegis128l_mac_check W aes-held answers-held lent-held aegis128l-held aegis128l_core-held oneshot-held,
+              (
+                oneshot.stream_aegis128l_stream W aes-held answers-held lent-held aegis128l-held aegis128l_core-held oneshot-held,
+                (
+                  oneshot.stream_aegis128l_stream_xor W aes-held answers-held lent-held aegis128l-held aegis128l_core-held oneshot-held,
+                  (
+                    session.starts_mac_start W aes-held answers-held lent-held aegis128l-held aegis128l_core-held session-held,
+                    (
+                      session.starts_open_start W aes-held answers-held lent-held aegis128l-held aegis128l_core-held session-held,
+                      (
+                        session.starts_seal_start W aes-held answers-held lent-held aegis128l-held aegis128l_core-held session-held,
+                        (
+                          session_finishes.abort W aes-held answers-held lent-held aegis128l-held aegis128l_core-held session-held session_finishes-held,
+                          (
+                            session_finishes.mac_finish W aes-held answers-held lent-held aegis128l-held aegis128l_core-held session-held session_finishes-held,
+                            (
+                              session_finishes.mac_finish_check W aes-held answers-held lent-held aegis128l-held aegis128l_core-held session-held session_finishes-held,
+                              (
+                                session_finishes.open_finish W aes-held answers-held lent-held aegis128l-held aegis128l_core-held session-held session_finishes-held,
+                                (
+                                  session_finishes.seal_finish W aes-held answers-held lent-held aegis128l-held aegis128l_core-held session-held session_finishes-held,
+                                  (
+                                    session_pieces.mac_piece W aes-held answers-held lent-held aegis128l-held aegis128l_core-held session-held session_pieces-held,
+                                    (
+                                      session_pieces.open_piece W aes-held answers-held lent-held aegis128l-held aegis128l_core-held session-held session_pieces-held,
+                                      (
+                                        session_pieces.seal_piece W aes-held answers-held lent-held aegis128l-held aegis128l_core-held session-held session_pieces-held,
+                                        (
+                                          session_pieces.seal_piece_in_place W aes-held answers-held lent-held aegis128l-held aegis128l_core-held session-held session_pieces-held,
+                                          tt,
+                                        ),
+                                      ),
+                                    ),
+                                  ),
+                                ),
+                              ),
+                            ),
+                          ),
+                        ),
+                      ),
+                    ),
+                  ),
+                ),
+              ),
+            ),
+          ),
+        ),
+      ),
+    ),
+  )
+
+  pub aegis128l_abort : HasT (in_world W) true aegis128l_abort-symbol.code
+  unfolding table
+  aegis128l_abort = link.linked-thin::aegis128l_abort W held below
+
+  pub aegis128l_mac_finish : HasT (in_world W) true aegis128l_mac_finish-symbol.code
+  unfolding table
+  aegis128l_mac_finish = link.linked-thin::aegis128l_mac_finish W held below
+
+  pub aegis128l_mac_finish_check : HasT (in_world W) true aegis128l_mac_finish_check-symbol.code
+  unfolding table
+  aegis128l_mac_finish_check = link.linked-thin::aegis128l_mac_finish_check W held below
+
+  pub aegis128l_mac_piece : HasT (in_world W) true aegis128l_mac_piece-symbol.code
+  unfolding table
+  aegis128l_mac_piece = link.linked-thin::aegis128l_mac_piece W held below
+
+  pub aegis128l_mac_start : HasT (in_world W) true aegis128l_mac_start-symbol.code
+  unfolding table
+  aegis128l_mac_start = link.linked-thin::aegis128l_mac_start W held below
+
+  pub aegis128l_open_finish : HasT (in_world W) true aegis128l_open_finish-symbol.code
+  unfolding table
+  aegis128l_open_finish = link.linked-thin::aegis128l_open_finish W held below
+
+  pub aegis128l_open_piece : HasT (in_world W) true aegis128l_open_piece-symbol.code
+  unfolding table
+  aegis128l_open_piece = link.linked-thin::aegis128l_open_piece W held below
+
+  pub aegis128l_open_start : HasT (in_world W) true aegis128l_open_start-symbol.code
+  unfolding table
+  aegis128l_open_start = link.linked-thin::aegis128l_open_start W held below
+
+  pub aegis128l_seal_finish : HasT (in_world W) true aegis128l_seal_finish-symbol.code
+  unfolding table
+  aegis128l_seal_finish = link.linked-thin::aegis128l_seal_finish W held below
+
+  pub aegis128l_seal_piece : HasT (in_world W) true aegis128l_seal_piece-symbol.code
+  unfolding table
+  aegis128l_seal_piece = link.linked-thin::aegis128l_seal_piece W held below
+
+  pub aegis128l_seal_piece_in_place : HasT (in_world W) true aegis128l_seal_piece_in_place-symbol.code
+  unfolding table
+  aegis128l_seal_piece_in_place = link.linked-thin::aegis128l_seal_piece_in_place W held below
+
+  pub aegis128l_seal_start : HasT (in_world W) true aegis128l_seal_start-symbol.code
+  unfolding table
+  aegis128l_seal_start = link.linked-thin::aegis128l_seal_start W held below
+
+  pub once_aegis128l_mac : HasT (in_world W) true once_aegis128l_mac-symbol.code
+  unfolding table
+  once_aegis128l_mac = link.linked-thin::once::aegis128l_mac W held below
+
+  pub once_aegis128l_mac_check : HasT (in_world W) true once_aegis128l_mac_check-symbol.code
+  unfolding table
+  once_aegis128l_mac_check = link.linked-thin::once::aegis128l_mac_check W held below
+
+  pub once_aegis128l_open : HasT (in_world W) true once_aegis128l_open-symbol.code
+  unfolding table
+  once_aegis128l_open = link.linked-thin::once::aegis128l_open W held below
+
+  pub once_aegis128l_open_in_place : HasT (in_world W) true once_aegis128l_open_in_place-symbol.code
+  unfolding table
+  once_aegis128l_open_in_place = link.linked-thin::once::aegis128l_open_in_place W held below
+
+  pub once_aegis128l_seal : HasT (in_world W) true once_aegis128l_seal-symbol.code
+  unfolding table
+  once_aegis128l_seal = link.linked-thin::once::aegis128l_seal W held below
+
+  pub once_aegis128l_seal_in_place : HasT (in_world W) true once_aegis128l_seal_in_place-symbol.code
+  unfolding table
+  once_aegis128l_seal_in_place = link.linked-thin::once::aegis128l_seal_in_place W held below
+
+  pub once_aegis128l_stream : HasT (in_world W) true once_aegis128l_stream-symbol.code
+  unfolding table
+  once_aegis128l_stream = link.linked-thin::once::aegis128l_stream W held below
+
+  pub once_aegis128l_stream_xor : HasT (in_world W) true once_aegis128l_stream_xor-symbol.code
+  unfolding table
+  once_aegis128l_stream_xor = link.linked-thin::once::aegis128l_stream_xor W held below

@@ -1,0 +1,93 @@
+// The one-shots.
+ghost use Rattle.promises.specs.Met.{SealMet, SealInPlaceMet, OpenMet, OpenInPlaceMet, StreamMet, StreamXorMet, MacMet, MacCheckMet};
+ghost use Rattle.aegis128l.specs.Cipher.{aegis128l, mac_of_aegis128l};
+
+#[unsafe(no_mangle)]
+pub extern "C" fn aegis128l_seal(
+    key: &[u8],
+    nonce: &[u8],
+    ad: &[u8],
+    msg: &[u8],
+    out: &mut [u8],
+    tag: &mut [u8],
+) -> u8
+    ensures { SealMet aegis128l key.now nonce.now ad.now msg.now out.old tag.old
+        result out.new tag.new }
+{
+    thin::once::aegis128l_seal(key, nonce, ad, msg, out, tag)
+}
+
+#[unsafe(no_mangle)]
+pub extern "C" fn aegis128l_seal_in_place(
+    key: &[u8],
+    nonce: &[u8],
+    ad: &[u8],
+    buf: &mut [u8],
+    tag: &mut [u8],
+) -> u8
+    ensures { SealInPlaceMet aegis128l key.now nonce.now ad.now buf.old tag.old
+        result buf.new tag.new }
+{
+    thin::once::aegis128l_seal_in_place(key, nonce, ad, buf, tag)
+}
+
+#[unsafe(no_mangle)]
+pub extern "C" fn aegis128l_open(
+    key: &[u8],
+    nonce: &[u8],
+    ad: &[u8],
+    ct: &[u8],
+    tag: &[u8],
+    out: &mut [u8],
+) -> u8
+    ensures { OpenMet aegis128l key.now nonce.now ad.now ct.now tag.now out.old
+        result out.new }
+{
+    thin::once::aegis128l_open(key, nonce, ad, ct, tag, out)
+}
+
+#[unsafe(no_mangle)]
+pub extern "C" fn aegis128l_open_in_place(
+    key: &[u8],
+    nonce: &[u8],
+    ad: &[u8],
+    buf: &mut [u8],
+    tag: &[u8],
+) -> u8
+    ensures { OpenInPlaceMet aegis128l key.now nonce.now ad.now buf.old tag.now
+        result buf.new }
+{
+    thin::once::aegis128l_open_in_place(key, nonce, ad, buf, tag)
+}
+
+#[unsafe(no_mangle)]
+pub extern "C" fn aegis128l_mac(key: &[u8], nonce: &[u8], data: &[u8], tag: &mut [u8]) -> u8
+    ensures { MacMet aegis128l mac_of_aegis128l key.now nonce.now «data».now tag.old
+        result tag.new }
+{
+    thin::once::aegis128l_mac(key, nonce, data, tag)
+}
+
+#[unsafe(no_mangle)]
+pub extern "C" fn aegis128l_mac_check(key: &[u8], nonce: &[u8], data: &[u8], tag: &[u8]) -> u8
+    ensures { MacCheckMet aegis128l mac_of_aegis128l key.now nonce.now «data».now tag.now
+        result }
+{
+    thin::once::aegis128l_mac_check(key, nonce, data, tag)
+}
+
+#[unsafe(no_mangle)]
+pub extern "C" fn aegis128l_stream(key: &[u8], nonce: &[u8], out: &mut [u8]) -> u8
+    ensures { StreamMet aegis128l key.now nonce.now out.old
+        result out.new }
+{
+    thin::once::aegis128l_stream(key, nonce, out)
+}
+
+#[unsafe(no_mangle)]
+pub extern "C" fn aegis128l_stream_xor(key: &[u8], nonce: &[u8], buf: &mut [u8]) -> u8
+    ensures { StreamXorMet aegis128l key.now nonce.now buf.old
+        result buf.new }
+{
+    thin::once::aegis128l_stream_xor(key, nonce, buf)
+}
