@@ -14,11 +14,11 @@ export RT PREFIX DESTDIR PROCESSOR
 ## make examples   builds the examples in C and Rust over the archive and runs them
 ## make compare    compares the archive and the program with the Rust
 ## make bench      measures speed and instructions beside the Rust's
-## make test       all that CI runs; its last line is 'N passed, 0 failed' (20 to 30 minutes on two cores)
-## make fmt        formats the files of crates/
-## make clean      removes build/ and target/
+## make test       all that CI runs; its last line is 'N passed, 0 failed'
+## make fmt        lays out the files of crates/
+## make clean      removes what is built: build/, and what rt keeps in crates/*/out
 ##
-## PROCESSOR=x86_64 or aarch64 builds and installs for that processor (default: this machine's)
+## PROCESSOR=x86_64 or aarch64 builds and installs for that processor (default: this machine's; the Rattle kit runs on x86-64 and compiles for both)
 ## PREFIX=/usr/local and DESTDIR= say where it is installed
 ## RT=/path/to/rt names the Rattle toolchain's command where it is not on the path
 help:
@@ -54,7 +54,7 @@ bench: native lib
 	@compare/run.sh instructions
 
 fmt: toolchain
-	$(RT) fmt
+	@for crate in crates/*/src; do (cd "$$crate/.." && "$(RT)" fmt) || exit 1; done
 
 toolchain:
 	@command -v "$(RT)" >/dev/null || { echo "make: the Rattle toolchain's command '$(RT)' is not on the path. With it, '$(RT) doc' names the guide to read first; RT=/path/to/rt names it elsewhere." >&2; exit 1; }
@@ -64,4 +64,4 @@ native:
 	@[ -z "$(PROCESSOR)" ] || [ "$(PROCESSOR)" = "$$(uname -m)" ] || { echo "make: this target runs what it builds, and this machine is $$(uname -m), not '$(PROCESSOR)'" >&2; exit 1; }
 
 clean:
-	rm -rf build target
+	rm -rf build target crates/*/out

@@ -1,6 +1,6 @@
 #!/bin/sh
 # Builds the comparison offline and runs it: compare/run.sh COMMAND .. (without one, it prints the commands).
-# The Rust is read from WODZERIM_RUST_SRC, docs/src or ../shared/docs/src; it is linked into build/oracle, never copied.
+# The Rust is read from WODZERIM_RUST_SRC, docs/src or ../shared/docs/src, and copied into build/oracle, which like all of build/ is never committed.
 set -eu
 top=$(cd "$(dirname "$0")/.." && pwd)
 
@@ -38,12 +38,13 @@ rust=$(find_rust)
 [ -n "$rust" ] || missing 'the Rust is neither in docs/src nor in ../shared/docs/src; WODZERIM_RUST_SRC may name its folder'
 [ -f "$top/build/libwodzerim.a" ] || { echo 'compare: build/libwodzerim.a is not there: make lib builds it' >&2; exit 1; }
 
-# The crate's files by links, and an empty file for each module that it names, that is not at hand and that AEGIS-128L
-# doesn't use.
+# The crate's files, and an empty file for each module that it names, that is not at hand and that AEGIS-128L doesn't use. They are copies, and a link
+# of an earlier build goes: rt ci refuses a link anywhere in the checkout.
 oracle=$top/build/oracle
 mkdir -p "$oracle/src/pure_rust"
 (cd "$rust/src" && find . -name '*.rs') | while read -r file; do
-    ln -sf "$rust/src/$file" "$oracle/src/$file"
+    [ ! -h "$oracle/src/$file" ] || rm "$oracle/src/$file"
+    cmp -s "$rust/src/$file" "$oracle/src/$file" || cp "$rust/src/$file" "$oracle/src/$file"
 done
 for module in compat pure_rust/aegis128x2 pure_rust/aegis128x4 pure_rust/aegis256 pure_rust/aegis256x2 pure_rust/aegis256x4; do
     [ -e "$oracle/src/$module.rs" ] || : >"$oracle/src/$module.rs"

@@ -68,7 +68,7 @@ wrong=$(
     done
 
     # what nothing uses
-    find crates -name '*.antt' -o -name '*.rt' | LC_ALL=C sort | LC_ALL=C xargs awk -f scripts/uses.awk docs/THEOREMS.md
+    find crates -name out -prune -o \( -name '*.antt' -o -name '*.rt' \) -print | LC_ALL=C sort | LC_ALL=C xargs awk -f scripts/uses.awk docs/THEOREMS.md
 
     # links
     for page in README.md docs/*.md compare/*.md examples/*.md; do

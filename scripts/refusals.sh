@@ -1,24 +1,36 @@
 #!/bin/sh
-# Looks at why each must-fail edit was refused, in the logs that rt ci leaves: a fact must fail. Where an error is that a name is no longer
-# there, the edit changed only the shape of what is to be proved, and shows nothing; where it stands in the edited definition or code itself, the edit
-# has no meaning.
+# Looks at why each must-fail edit was refused, in what rt ci said of it: a fact must fail. rt ci gives the first of the errors that is no missing name
+# in a proof; it says where each error is one, or where the prover only met a limit, and such an edit shows nothing. Nor does one whose edited definition
+# or code is wrong in itself.
+#   refusals.sh FILE    (what rt ci said)
 set -eu
 cd "$(dirname "$0")/.."
+said=${1:-build/rt-ci.txt}
+[ -f "$said" ] || { echo "refusals: $said is not there: make test writes what rt ci says to it" >&2; exit 1; }
 count=0 wrong=0
-for log in target/must-fail/*/*/.log; do
-    [ -f "$log" ] || { echo 'refusals: there are no logs of must-fail edits: rt ci leaves them in target/must-fail' >&2; exit 1; }
+
+shows_nothing() { # WHY
+    echo "refusals: $edit $1: $(echo "$line" | cut -c1-400)" >&2
+    wrong=1
+}
+
+for file in crates/*/must-fail/*.edit; do
+    edit=${file#crates/}
+    edit=${edit%%/*}/${edit##*/}
     count=$((count + 1))
-    shape=$(grep ': error: .*\(that can be named from here\|has no field\|is not in scope\)' "$log" | head -n 1 | cut -c1-300)
-    [ -z "$shape" ] || { printf 'refusals: %s was refused for its shape:\n%s\n' "${log%/.log}" "$shape" >&2; wrong=1; }
-    edit=${log%/.log}
-    edit=crates/${edit#target/must-fail/}
-    for file in $(sed -n 's/^file: \(specs\|src\)/\1/p' "${edit%/*}/must-fail/${edit##*/}.edit"); do
-        if grep -q "/$file:[0-9]*:[0-9]*: error" "$log"; then
-            printf 'refusals: %s is wrong in itself:\n%s\n' "${log%/.log}" "$(grep -m 1 "/$file:[0-9]*:[0-9]*: error" "$log" | cut -c1-300)" >&2
-            wrong=1
-        fi
+    line=$(grep -F "rt: must-fail $edit: " "$said" || :)
+    why=${line#"rt: must-fail $edit: refused, as it must be"}
+    case $why in
+    "$line") shows_nothing 'was not refused' ;;
+    ' (only by a limit '* | *'gave up at one of its limits'*) shows_nothing 'was refused only by a limit of the prover' ;;
+    ' ('* | *'that can be named from here'* | *'has no field'* | *'is not in scope'* | *'was not admitted'*) shows_nothing 'was refused for its shape' ;;
+    ': '*) ;;
+    *) shows_nothing 'was refused, and no reason is given' ;;
+    esac
+    for changed in $(sed -n 's/^file: \(specs\|src\)/\1/p' "$file"); do
+        ! echo "$why" | grep -qE "^: (\./)?$changed:[0-9]+:[0-9]+: error" || shows_nothing 'is wrong in itself'
     done
-    grep -q ': error: ' "$log" || { echo "refusals: ${log%/.log} has no error in its log" >&2; wrong=1; }
 done
+[ "$count" -gt 0 ] || { echo 'refusals: there is no must-fail edit' >&2; exit 1; }
 [ "$wrong" -eq 0 ] || exit 1
 echo "each of $count wrong programs is refused because a fact fails"

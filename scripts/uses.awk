@@ -4,18 +4,15 @@
 #   - other name there that its own file never uses,
 #   - name that a file imports, or takes from a record that it opens, and never uses,
 #   - public function that nothing calls and that is not exported.
-# The fields of a record go with the record, and a function's own proof (Proof.antt) is for the checker. What a comment says is no use, and that an
-# edit is refused by a law is none either (docs/PROMISES.md). A word ends at white space, at ( ) { } , ; and . so -, ′, · and ₂ are letters of it.
+# The fields of a record go with the record, and a function's own proof (Answers.antt, Invariants.antt, Proof.antt) is for the checker. What a comment
+# says is no use, and that an edit is refused by a law is none either (docs/PROMISES.md). A word ends at white space, at ( ) { } , ; and . so -, ', «, ◌
+# and ₂ are letters of it.
 
-# Rattle·aes·specs.specs.Round and Rattle·aes.specs.Round are crates/aes/specs/Round.antt
-function file_of(path, at, crate) {
-    if (!sub(/^Rattle·/, "", path)) return ""
-    at = index(path, ".")
-    crate = substr(path, 1, at - 1)
-    path = substr(path, at + 1)
-    sub(/·(specs|proofs)$/, "", crate)
+# Rattle.aes.specs.Round is crates/aes/specs/Round.antt
+function file_of(path) {
+    if (!sub(/^Rattle[.]/, "", path)) return ""
     gsub(/[.]/, "/", path)
-    return "crates/" crate "/" path ".antt"
+    return "crates/" path ".antt"
 }
 
 # `name as alias` becomes these two; without an alias both are the name
@@ -88,10 +85,10 @@ FNR == 1 { pending = ""; fields = public_head = spelt_out = -1 }
 }
 /^ *((pub|ghost) )*use / { import($0); next }
 /^ *(pub )?mod / || /^ *$/ { next }
-/^ *open .* using [(]/ {
-    n = split(substr($0, index($0, " using (") + 8), names, /[,) ]+/)
+/^ *open .* use [{]/ {
+    n = split(substr($0, index($0, " use {") + 6), names, /[,} ]+/)
     for (i = 1; i <= n; i++) if (names[i] != "") imported[++imports] = FILENAME SUBSEP names[i]
-    $0 = substr($0, 1, index($0, " using ("))
+    $0 = substr($0, 1, index($0, " use {"))
 }
 
 {
@@ -148,7 +145,7 @@ END {
     }
     for (n = 1; n <= publics; n++) {
         split(public[n], pair, SUBSEP)
-        if (pair[1] ~ /\/Proof[.]antt$/ || (public[n] in cited) || (pair[2] in document) || (public[n] in document) || (public[n] in stated)) continue
+        if (pair[1] ~ /\/(Answers|Invariants|Proof)[.]antt$/ || (public[n] in cited) || (pair[2] in document) || (public[n] in document) || (public[n] in stated)) continue
         print pair[1] ": " pair[2] " is public, but no other file uses it, and docs/THEOREMS.md does not name it"
     }
     for (n = 1; n <= privates; n++) {
@@ -158,7 +155,7 @@ END {
     for (n = 1; n <= imports; n++) {
         split(imported[n], pair, SUBSEP)
         sign = pair[2]
-        gsub(/_/, "", sign)
+        gsub(/◌/, "", sign)
         if (!(imported[n] in has) && !((pair[1], sign) in has)) print pair[1] ": imports " pair[2] ", and does not use it"
     }
     for (n = 1; n <= functions; n++) {
