@@ -1,7 +1,7 @@
 #!/bin/sh
-# Looks at why each must-fail edit was refused, in what rt ci said of it: a fact must fail. rt ci gives the first of the errors that is no missing name
-# in a proof; it says where each error is one, or where the prover only met a limit, and such an edit shows nothing. Nor does one whose edited definition
-# or code is wrong in itself.
+# Looks at why each must-fail edit was refused, in what rt ci said of it: a fact must fail. rt ci gives one error, the first that is no missing name in
+# a proof. Where every error is a missing name, or the prover only met a limit, it says so, and such an edit shows nothing. Nor does one whose edited
+# definition or code is wrong in itself.
 #   refusals.sh FILE    (what rt ci said)
 set -eu
 cd "$(dirname "$0")/.."

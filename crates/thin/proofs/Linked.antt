@@ -1,18 +1,9 @@
--- A world of crates that has this crate's table of functions, and those of the crates below, has the code of each function that is called from above, and of all that it
--- calls. The table is the one that Rattle makes of src/.
+-- A world of crates that has this crate's table of functions, and the code of each function that they call, has the code of each function here. The
+-- table, and what is called, are as Rattle makes them of src/.
 -- Assumes nothing.
 use Rattle.std.proofs.Common.{true}
 use prog.Linked.{Tree, World, Holds, in_world}
 use prog.LinkedThreads.{HasT}
-use Rattle.aes.proofs.Linked as aes
-use Rattle.answers.proofs.Linked as answers
-use Rattle.lent.proofs.Linked as lent
-use Rattle.aegis128l.proofs.Linked as aegis128l
-use Rattle.aegis128l_core.proofs.Linked as aegis128l_core
-use Rattle.oneshot.proofs.Linked as oneshot
-use Rattle.session.proofs.Linked as session
-use Rattle.session_pieces.proofs.Linked as session_pieces
-use Rattle.session_finishes.proofs.Linked as session_finishes
 use Rattle.thin.proofs.TheLink as link
 use Rattle.thin.proofs.aegis128l_abort.Symbol as aegis128l_abort-symbol
 use Rattle.thin.proofs.aegis128l_mac_finish.Symbol as aegis128l_mac_finish-symbol
@@ -38,70 +29,7 @@ use Rattle.thin.proofs.once.aegis128l_stream_xor.Symbol as once_aegis128l_stream
 pub table : Tree
 table = link.table
 
-module _ (W : World) (aes-held : Holds W "aes" aes.table) (answers-held : Holds W "answers" answers.table) (lent-held : Holds W "lent" lent.table) (aegis128l-held : Holds W "aegis128l" aegis128l.table) (aegis128l_core-held : Holds W "aegis128l_core" aegis128l_core.table) (oneshot-held : Holds W "oneshot" oneshot.table) (session-held : Holds W "session" session.table) (session_pieces-held : Holds W "session_pieces" session_pieces.table) (session_finishes-held : Holds W "session_finishes" session_finishes.table) (held : Holds W "thin" table) where
-  below : link.Below W
-  below = (
-    oneshot.aegis128l_open W aes-held answers-held lent-held aegis128l-held aegis128l_core-held oneshot-held,
-    (
-      oneshot.aegis128l_open_in_place W aes-held answers-held lent-held aegis128l-held aegis128l_core-held oneshot-held,
-      (
-        oneshot.aegis128l_seal W aes-held answers-held lent-held aegis128l-held aegis128l_core-held oneshot-held,
-        (
-          oneshot.aegis128l_seal_in_place W aes-held answers-held lent-held aegis128l-held aegis128l_core-held oneshot-held,
-          (
-            oneshot.mac_aegis128l_mac W aes-held answers-held lent-held aegis128l-held aegis128l_core-held oneshot-held,
-            (
-              oneshot.mac_aegis128l_mac_check W aes-held answers-held lent-held aegis128l-held aegis128l_core-held oneshot-held,
-              (
-                oneshot.stream_aegis128l_stream W aes-held answers-held lent-held aegis128l-held aegis128l_core-held oneshot-held,
-                (
-                  oneshot.stream_aegis128l_stream_xor W aes-held answers-held lent-held aegis128l-held aegis128l_core-held oneshot-held,
-                  (
-                    session.starts_mac_start W aes-held answers-held lent-held aegis128l-held aegis128l_core-held session-held,
-                    (
-                      session.starts_open_start W aes-held answers-held lent-held aegis128l-held aegis128l_core-held session-held,
-                      (
-                        session.starts_seal_start W aes-held answers-held lent-held aegis128l-held aegis128l_core-held session-held,
-                        (
-                          session_finishes.abort W aes-held answers-held lent-held aegis128l-held aegis128l_core-held session-held session_finishes-held,
-                          (
-                            session_finishes.mac_finish W aes-held answers-held lent-held aegis128l-held aegis128l_core-held session-held session_finishes-held,
-                            (
-                              session_finishes.mac_finish_check W aes-held answers-held lent-held aegis128l-held aegis128l_core-held session-held session_finishes-held,
-                              (
-                                session_finishes.open_finish W aes-held answers-held lent-held aegis128l-held aegis128l_core-held session-held session_finishes-held,
-                                (
-                                  session_finishes.seal_finish W aes-held answers-held lent-held aegis128l-held aegis128l_core-held session-held session_finishes-held,
-                                  (
-                                    session_pieces.mac_piece W aes-held answers-held lent-held aegis128l-held aegis128l_core-held session-held session_pieces-held,
-                                    (
-                                      session_pieces.open_piece W aes-held answers-held lent-held aegis128l-held aegis128l_core-held session-held session_pieces-held,
-                                      (
-                                        session_pieces.seal_piece W aes-held answers-held lent-held aegis128l-held aegis128l_core-held session-held session_pieces-held,
-                                        (
-                                          session_pieces.seal_piece_in_place W aes-held answers-held lent-held aegis128l-held aegis128l_core-held session-held session_pieces-held,
-                                          tt,
-                                        ),
-                                      ),
-                                    ),
-                                  ),
-                                ),
-                              ),
-                            ),
-                          ),
-                        ),
-                      ),
-                    ),
-                  ),
-                ),
-              ),
-            ),
-          ),
-        ),
-      ),
-    ),
-  )
-
+module _ (W : World) (held : Holds W "thin" table) (below : link.Below W) where
   pub aegis128l_abort : HasT (in_world W) true aegis128l_abort-symbol.code
   unfolding table
   aegis128l_abort = link.linked-thin::aegis128l_abort W held below
