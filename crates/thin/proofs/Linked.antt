@@ -29,7 +29,11 @@ use Rattle.thin.proofs.once.aegis128l_stream_xor.Symbol as once_aegis128l_stream
 pub table : Tree
 table = link.table
 
-module _ (W : World) (held : Holds W "thin" table) (below : link.Below W) where
+-- the code of the functions of other crates that are called here, as Rattle lists them
+abbrev pub Below : World → Type 0
+Below = link.Below
+
+module _ (W : World) (held : Holds W "thin" table) (below : Below W) where
   pub aegis128l_abort : HasT (in_world W) true aegis128l_abort-symbol.code
   unfolding table
   aegis128l_abort = link.linked-thin::aegis128l_abort W held below
