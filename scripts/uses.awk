@@ -107,11 +107,12 @@ FNR == 1 { pending = ""; fields = public_head = spelt_out = -1 }
     if (indent <= fields) fields = -1
     if (FILENAME ~ /[.]antt$/ && fields < 0) {
         type = /^ *(pub )?(record|data) [^{]/
+        clause = FILENAME ~ /Invariants[.]antt$/ && indent > 0  # of an invariant that names its clauses
         if (/^ *((abbrev|unfoldable) )?pub /) {
             public[++publics] = FILENAME SUBSEP name
             defines[FILENAME, name, indent] = 1
             public_head = indent
-        } else if (type || (/^ *((abbrev|unfoldable) )?[^ (){}]+ : / && start !~ /^(let|module)$/)) {
+        } else if (type || (/^ *((abbrev|unfoldable) )?[^ (){}]+ : / && start !~ /^(let|module)$/ && !clause)) {
             private[++privates] = FILENAME SUBSEP name
             defines[FILENAME, name, indent] = 1
         }
@@ -134,6 +135,11 @@ FNR == 1 { pending = ""; fields = public_head = spelt_out = -1 }
             if (stated_here) stated[FILENAME, parts[p]] = 1
         }
         if (n > 1 && ((FILENAME, parts[1]) in module)) cited[module[FILENAME, parts[1]], parts[2]] = 1
+        # in code a name may stand in Option<..>, in [..; ..] or behind a ? too
+        if (FILENAME ~ /[.]rt$/) {
+            n = split(words[i], parts, /[][.<>|?*]|::/)
+            for (p = 1; p <= n; p++) has[FILENAME, parts[p]] = calls[parts[p]] = 1
+        }
     }
 }
 

@@ -1,10 +1,12 @@
--- The structs of the code as the definitions have them: a state is its eight blocks of bytes.
+-- The types of the code as the definitions have them: a state is its eight blocks of bytes, a mode is the machine's.
 -- Assumes nothing.
-use Rattle.std.specs.Prelude.{ℕ, Bool, true, false, List, [], ◌∷◌, ◌++◌, get_or}
+use Rattle.std.specs.Prelude.{ℕ, List, [], ◌∷◌, ◌++◌, get_or}
 use Rattle.machine.specs.Machine.{Mode, enc, dec}
 use Rattle.aes.specs.Round.{block_at}
 use Rattle.aes.specs.declared.AesBlock.{AesBlock}
 use Rattle.aegis128l.specs.declared.state.State.{State}
+use Rattle.aegis128l.specs.declared.mode.Mode as code
+use Rattle.aegis128l.specs.declared.mode.Mode.TheVariants.{Encrypt, Decrypt}
 use Rattle.aegis128l.specs.Aegis128L.{Blocks}
 
 -- what stands past the end of a list of blocks
@@ -22,9 +24,9 @@ blocks_of b =
 abbrev pub state_of : State → Blocks
 state_of s = blocks_of s.blocks
 
-abbrev pub mode_of : Bool → Mode
-mode_of true = dec
-mode_of false = enc
+abbrev pub mode_of : code.Mode → Mode
+mode_of Encrypt = enc
+mode_of Decrypt = dec
 
 -- two blocks, one behind the other
 abbrev pub joined : List ℕ → List ℕ → List ℕ

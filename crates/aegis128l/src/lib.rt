@@ -2,5 +2,9 @@
 // of the crates above, and lent down as `t`.
 #![tactic(auto)]
 
+pub mod mode;
 pub mod state;
 pub mod tag;
+
+// What keys and nonces have, in bytes.
+pub const SIZE: usize = 16;

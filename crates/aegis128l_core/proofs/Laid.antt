@@ -2,7 +2,6 @@
 -- Assumes nothing.
 use Prim.Native.Nat.{ℕ, ◌+◌, ◌-◌, ◌≤◌}
 use mathlib.Core.Path.{◌≡◌, refl, sym, ap, ◌∙◌}
-use mathlib.Core.Bool.{Bool, true, false}
 use mathlib.Core.List.{List, ◌++◌, append_assoc}
 use native.Mathlib.Omega.{arith}
 use lib.ListN.{length, take, drop, length-drop}
@@ -14,6 +13,8 @@ use Rattle.machine.proofs.Bytes.{xors-take}
 use Rattle.lent.specs.Lent.{over, xored}
 use Rattle.lent.proofs.Over.{over-same}
 use Rattle.lent.proofs.Xored.{xored-xors, length-xored}
+use Rattle.aegis128l.specs.declared.mode.Mode.{Mode}
+use Rattle.aegis128l.specs.declared.mode.Mode.TheVariants.{Encrypt, Decrypt}
 use Rattle.aegis128l.specs.View.{mode_of}
 
 -- k is the block, xs the part as it came, and n its length
@@ -39,13 +40,13 @@ module _ (k xs : List ℕ) (f n : ℕ) (size : n ≡ length xs) (fits : f + leng
       ∙ ap (λ (r : List ℕ). take f k ++ (ts ++ r)) (drop-drop n f k ∙ ap (λ (j : ℕ). drop (f + j) k) size)
       ∙ sym (append_assoc (take f k) ts (drop (f + length xs) k))
 
-  module _ (ys p : List ℕ) (d : Bool) (o : ys ≡ xored place xs) where
+  module _ (ys p : List ℕ) (m : Mode) (o : ys ≡ xored place xs) where
     abbrev Done : Type 0
-    Done = (put_mid f n k p ≡ take f k ++ plain (mode_of d) xs ys ++ drop (f + length xs) k) × (ys ≡ xors xs (drop f k))
+    Done = (put_mid f n k p ≡ take f k ++ plain (mode_of m) xs ys ++ drop (f + length xs) k) × (ys ≡ xors xs (drop f k))
 
     -- what came out is laid into the block, or what went in
-    pub filled_decrypted : d ≡ true → p ≡ over ys place → Done
+    pub filled_decrypted : m ≡ Decrypt → p ≡ over ys place → Done
     filled_decrypted t e = (rw t (laid ys p (ap length o ∙ length-xored place xs) e), o ∙ coded)
 
-    pub filled_encrypted : d ≡ false → p ≡ over xs place → Done
+    pub filled_encrypted : m ≡ Encrypt → p ≡ over xs place → Done
     filled_encrypted t e = (rw t (laid xs p refl e), o ∙ coded)

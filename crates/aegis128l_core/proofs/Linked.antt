@@ -1,12 +1,9 @@
--- A world of crates that has this crate's table of functions, and those of the crates below, has the code of each function that is called from above, and of all that it
--- calls. The table is the one that Rattle makes of src/.
+-- A world of crates that has this crate's table of functions, and the code of each function that they call, has the code of each function here that is
+-- called from above. The table, and what is called, are as Rattle makes them of src/.
 -- Assumes nothing.
 use Rattle.std.proofs.Common.{true}
 use prog.Linked.{Tree, World, Holds, in_world}
 use prog.LinkedThreads.{HasT}
-use Rattle.aes.proofs.Linked as aes
-use Rattle.lent.proofs.Linked as lent
-use Rattle.aegis128l.proofs.Linked as aegis128l
 use Rattle.aegis128l_core.proofs.TheLink as link
 use Rattle.aegis128l_core.proofs.Core.absorb.Symbol as Core_absorb-symbol
 use Rattle.aegis128l_core.proofs.Core.close.Symbol as Core_close-symbol
@@ -18,25 +15,11 @@ use Rattle.aegis128l_core.proofs.stream.stream_xor.Symbol as stream_stream_xor-s
 pub table : Tree
 table = link.table
 
-module _ (W : World) (aes-held : Holds W "aes" aes.table) (lent-held : Holds W "lent" lent.table) (aegis128l-held : Holds W "aegis128l" aegis128l.table) (held : Holds W "aegis128l_core" table) where
-  below : link.Below W
-  below = (
-    aegis128l.state_State_absorb W aes-held lent-held aegis128l-held,
-    (
-      aegis128l.state_State_block W aes-held lent-held aegis128l-held,
-      (
-        aegis128l.state_State_keystream W aes-held lent-held aegis128l-held,
-        (
-          lent.put W lent-held,
-          (
-            lent.xor_into W lent-held,
-            tt,
-          ),
-        ),
-      ),
-    ),
-  )
+-- the code of the functions of other crates that are called here, as Rattle lists them
+abbrev pub Below : World → Type 0
+Below = link.Below
 
+module _ (W : World) (held : Holds W "aegis128l_core" table) (below : Below W) where
   pub Core_absorb : HasT (in_world W) true Core_absorb-symbol.code
   unfolding table
   Core_absorb = link.linked-aegis128l_core::Core::absorb W held below

@@ -31,15 +31,12 @@ module _ {S : Type 0} (M : Machine S) (m : Mode) (c : Core S) (l : List ℕ) whe
   from_edge e some er ey = (er ∙ sym (after-fresh M m c e l some), ey ∙ sym (out-fresh M m c e l))
 
 -- ---- a buffer whose head of n bytes was lent and came back as ys, and then its rest as zs
-module _ (n j : ℕ) (l ys : List ℕ) (v : j ≡ n) (size : length ys ≡ n) where
+module _ (n : ℕ) (l ys : List ℕ) (size : length ys ≡ n) where
   abbrev back : List ℕ
-  back = put_mid 0 j l ys
-
-  head-back : back ≡ ys ++ drop n l
-  head-back = ap (λ (i : ℕ). ys ++ drop i l) v
+  back = put_mid 0 n l ys
 
   rest-stays : drop n back ≡ drop n l
-  rest-stays = ap (drop n) head-back ∙ drop_at ys (drop n l) n size
+  rest-stays = drop_at ys (drop n l) n size
 
   -- the rest is lent as the part from n to the end
   abbrev more : ℕ
@@ -51,7 +48,7 @@ module _ (n j : ℕ) (l ys : List ℕ) (v : j ≡ n) (size : length ys ≡ n) wh
   both-back : (zs : List ℕ) → put_mid n more back zs ≡ ys ++ zs
   both-back zs =
       let d : length (drop n back) ≡ more = length-drop n back in
-      ap₂ (λ (a b : List ℕ). a ++ (zs ++ b)) (ap (take n) head-back ∙ take_at ys (drop n l) n size) (drop_of_length-le (drop n back) {i = more} (omega arith))
+      ap₂ (λ (a b : List ℕ). a ++ (zs ++ b)) (take_at ys (drop n l) n size) (drop_of_length-le (drop n back) {i = more} (omega arith))
       ∙ ap (λ (b : List ℕ). ys ++ b) (append-nil zs)
 
 -- ---- the first n bytes of l complete the block that has been begun
@@ -66,12 +63,9 @@ module _ {S : Type 0} (M : Machine S) (m : Mode) (c : Core S) (l : List ℕ) (n 
       let e = after_completed M m c (take n l) k (omega arith) (omega arith) in
       ap (λ (d : Core S). start M d.state) e ∙ sym e
 
-  module _ {d : Core S} (j : ℕ) (v : j ≡ n) (ed : d ≡ after M m c (take j l)) where
-    head-after : d ≡ after M m c (take n l)
-    head-after = ed ∙ ap (λ (i : ℕ). after M m c (take i l)) v
-
+  module _ {d : Core S} (ed : d ≡ after M m c (take n l)) where
     goes_on : start M d.state ≡ after M m c (take n l)
-    goes_on = ap (λ (x : Core S). start M x.state) head-after ∙ at_edge
+    goes_on = ap (λ (x : Core S). start M x.state) ed ∙ at_edge
 
     -- the rest goes on from there
     after_both : {r : Core S} → r ≡ after M m (start M d.state) (drop n l) → r ≡ after M m c l
@@ -84,16 +78,15 @@ module _ {S : Type 0} (M : Machine S) (m : Mode) (c : Core S) (l : List ℕ) (n 
     absorbed_both er = after_both (er ∙ ap (after M m (start M d.state)) (take_rest n l))
 
     -- both parts were lent in place: the head came back as ys, and the rest as zs
-    pub transformed_both : {ys zs : List ℕ} {r : Core S} → ys ≡ out M m c (take j l)
-        → r ≡ after M m (start M d.state) (take (length (put_mid 0 j l ys) - n) (drop n (put_mid 0 j l ys)))
-        → zs ≡ out M m (start M d.state) (take (length (put_mid 0 j l ys) - n) (drop n (put_mid 0 j l ys)))
-        → (r ≡ after M m c l) × (put_mid n (length (put_mid 0 j l ys) - n) (put_mid 0 j l ys) zs ≡ out M m c l)
+    pub transformed_both : {ys zs : List ℕ} {r : Core S} → ys ≡ out M m c (take n l)
+        → r ≡ after M m (start M d.state) (take (length (put_mid 0 n l ys) - n) (drop n (put_mid 0 n l ys)))
+        → zs ≡ out M m (start M d.state) (take (length (put_mid 0 n l ys) - n) (drop n (put_mid 0 n l ys)))
+        → (r ≡ after M m c l) × (put_mid n (length (put_mid 0 n l ys) - n) (put_mid 0 n l ys) zs ≡ out M m c l)
     transformed_both {ys} {zs} ey er ez =
-        let y : ys ≡ out M m c (take n l) = ey ∙ ap (λ (i : ℕ). out M m c (take i l)) v in
-        let s : length ys ≡ n = ap length y ∙ out-length M m c (take n l) ∙ length-take-le n l enough in
-        let rest = rest-lent n j l ys v s in (
+        let s : length ys ≡ n = ap length ey ∙ out-length M m c (take n l) ∙ length-take-le n l enough in
+        let rest = rest-lent n l ys s in (
           after_both (er ∙ ap (after M m (start M d.state)) rest),
-          both-back n j l ys v s zs
-              ∙ ap₂ (λ (a b : List ℕ). a ++ b) y (ez ∙ ap (out M m (start M d.state)) rest ∙ ap (λ (x : Core S). out M m x (drop n l)) goes_on)
+          both-back n l ys s zs
+              ∙ ap₂ (λ (a b : List ℕ). a ++ b) ey (ez ∙ ap (out M m (start M d.state)) rest ∙ ap (λ (x : Core S). out M m x (drop n l)) goes_on)
               ∙ sym (out-append M m c (take n l) (drop n l)) ∙ ap (out M m c) (take-append-drop n l),
         )

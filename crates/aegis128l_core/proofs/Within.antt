@@ -8,7 +8,7 @@ use lib.ListN.{length, take, drop}
 use lib.Seq.{length-take-le}
 use borrow.Author.Tests.{ne_eqb}
 use borrow.Rule.Slice.PartMut.{put_mid}
-use Rattle.machine.specs.Bytes.{zeros, xors, pad_to}
+use Rattle.machine.specs.Bytes.{zeros, xors}
 use Rattle.machine.specs.Machine.{Machine, Core, Mode, enc, plain, start, current, settled, after, out, close}
 use Rattle.machine.specs.Kinds.{silent}
 use Rattle.machine.proofs.Kept.{current-length}
@@ -30,12 +30,12 @@ module _ {S : Type 0} (M : Machine S) where
   unfolding settled start
   silent-settled s b f = refl
 
-  -- the end of the input: p is a block of zeros with the filled part, of n bytes, laid over it
-  pub closed : (c : Core S) (n : ℕ) (p : List ℕ) {r : S} → n ≡ c.fill → zero < c.fill → c.fill ≤ length c.buf → c.fill ≤ rate
-      → p ≡ over (take n c.buf) (zeros rate) → r ≡ absorb c.state p → r ≡ close M c
-  closed c n p v some fits h e q =
-      let l : length (take n c.buf) ≡ n = length-take-le n c.buf (omega arith) in
-      q ∙ ap (absorb c.state) (e ∙ over_zeros rate (take n c.buf) (omega arith) ∙ ap (λ (j : ℕ). pad_to rate (take j c.buf)) v)
+  -- the end of the input: p is a block of zeros with the filled part laid over it
+  pub closed : (c : Core S) (p : List ℕ) {r : S} → zero < c.fill → c.fill ≤ length c.buf → c.fill ≤ rate
+      → p ≡ over (take c.fill c.buf) (zeros rate) → r ≡ absorb c.state p → r ≡ close M c
+  closed c p some fits h e q =
+      let l : length (take c.fill c.buf) ≡ c.fill = length-take-le c.fill c.buf fits in
+      q ∙ ap (absorb c.state) (e ∙ over_zeros rate (take c.fill c.buf) (omega arith))
       ∙ sym (close-begun M c some)
 
 module _ {S : Type 0} (M : Machine S) (m : Mode) (c : Core S) (xs : List ℕ) where

@@ -1,36 +1,40 @@
--- A world of crates that has this crate's table of functions has the code of each function that is called from above, and of all that it
--- calls. The table is the one that Rattle makes of src/.
+-- A world of crates that has this crate's table of functions, and the code of each function that they call, has the code of each function here that is
+-- called from above. The table, and what is called, are as Rattle makes them of src/.
 -- Assumes nothing.
 use Rattle.std.proofs.Common.{true}
 use prog.Linked.{Tree, World, Holds, in_world}
 use prog.LinkedThreads.{HasT}
 use Rattle.aes.proofs.TheLink as link
-use Rattle.aes.proofs.AesBlock.and.Symbol as AesBlock_and-symbol
 use Rattle.aes.proofs.AesBlock.from_part.Symbol as AesBlock_from_part-symbol
 use Rattle.aes.proofs.AesBlock.round.Symbol as AesBlock_round-symbol
-use Rattle.aes.proofs.AesBlock.xor.Symbol as AesBlock_xor-symbol
+use Rattle.aes.proofs.AesBlockBitAnd.bitand.Symbol as AesBlockBitAnd_bitand-symbol
+use Rattle.aes.proofs.AesBlockBitXor.bitxor.Symbol as AesBlockBitXor_bitxor-symbol
 use Rattle.aes.proofs.sbox.Symbol as sbox-symbol
 
 pub table : Tree
 table = link.table
 
-module _ (W : World) (held : Holds W "aes" table) where
-  pub AesBlock_and : HasT (in_world W) true AesBlock_and-symbol.code
-  unfolding table
-  AesBlock_and = link.linked-aes::AesBlock::and W held tt
+-- the code of the functions of other crates that are called here, as Rattle lists them
+abbrev pub Below : World → Type 0
+Below = link.Below
 
+module _ (W : World) (held : Holds W "aes" table) (below : Below W) where
   pub AesBlock_from_part : HasT (in_world W) true AesBlock_from_part-symbol.code
   unfolding table
-  AesBlock_from_part = link.linked-aes::AesBlock::from_part W held tt
+  AesBlock_from_part = link.linked-aes::AesBlock::from_part W held below
 
   pub AesBlock_round : HasT (in_world W) true AesBlock_round-symbol.code
   unfolding table
-  AesBlock_round = link.linked-aes::AesBlock::round W held tt
+  AesBlock_round = link.linked-aes::AesBlock::round W held below
 
-  pub AesBlock_xor : HasT (in_world W) true AesBlock_xor-symbol.code
+  pub AesBlockBitAnd_bitand : HasT (in_world W) true AesBlockBitAnd_bitand-symbol.code
   unfolding table
-  AesBlock_xor = link.linked-aes::AesBlock::xor W held tt
+  AesBlockBitAnd_bitand = link.linked-aes::AesBlockBitAnd::bitand W held below
+
+  pub AesBlockBitXor_bitxor : HasT (in_world W) true AesBlockBitXor_bitxor-symbol.code
+  unfolding table
+  AesBlockBitXor_bitxor = link.linked-aes::AesBlockBitXor::bitxor W held below
 
   pub sbox : HasT (in_world W) true sbox-symbol.code
   unfolding table
-  sbox = link.linked-aes::sbox W held tt
+  sbox = link.linked-aes::sbox W held below

@@ -1,10 +1,12 @@
-// A text through a session, cut at two places (one, where they are equal) and after every byte.
+// A record's text through a session, cut at two places (one, where they are equal) and after every byte.
 #![tactic(auto)]
 
-ghost use Rattle.std.specs.Prelude.{◌≡◌, false};
+ghost use Rattle.std.specs.Prelude.{◌≡◌, ◌≤◌, IfSome};
+ghost use Rattle.answers.specs.Refusals.{answer_of};
 
-use session::Session;
+use session::{Handed, Session};
 
+mod cut;
 pub mod macing;
 pub mod opening;
 pub mod sealing;
@@ -12,18 +14,18 @@ pub mod sealing;
 // The longest text that is cut.
 pub const LONGEST: usize = 65;
 
-// The session after a piece, and whether the piece did what was recorded.
-#[derive(Clone, Copy)]
-pub struct Step {
-    pub equal: bool,
-    pub session: Session,
+// How many cuttings of a text there were, all equal.
+#[derive(Clone, Copy, PartialEq, Eq)]
+pub struct Cuttings {
+    pub count: usize,
+    pub ghost few: { count ≤ 8192 },
 }
 
-pub fn differs(s: Session) -> Step
-    ensures { result.equal ≡ false }
+// The session after a call that was done.
+fn session_after(handed: Handed<()>) -> Option<Session>
+    ensures { IfSome result (λ t. (answer_of handed.outcome ≡ 0) × (t ≡ handed.session)) }
 {
-    Step {
-        equal: false,
-        session: s,
-    }
+    let Handed { outcome, session } = handed;
+    outcome.ok()?;
+    Some(session)
 }

@@ -1,175 +1,113 @@
-// A MAC record through a MAC session, cut at two places and after every byte.
-ghost use Rattle.std.specs.Prelude.{◌≡◌, true, ◌≤◌, ◌<◌, ◌+◌, length};
-ghost use Rattle.promises.specs.SessionCalls.{mac_finish_check};
-ghost use Rattle.promises.specs.Session.{session_mac};
+// A MAC record through a MAC session.
+ghost use Rattle.std.specs.Prelude.{◌≡◌, length, IfSome, OnSome};
+ghost use Rattle.answers.specs.Refusals.{answer_of};
+ghost use Rattle.promises.specs.SessionCalls.{mac_finish_check, started};
+ghost use Rattle.promises.specs.Session.{macing};
+ghost use Rattle.aegis128l.specs.Aegis128L.{init};
 ghost use Rattle.aegis128l.specs.Cipher.{aegis128l, mac_of_aegis128l};
 ghost use Rattle.session.specs.View.{session_of};
-ghost use Rattle.recorded.specs.Records.{Maced};
-ghost use Rattle.cuttings.specs.Pieces.{Macing, MacsTo};
+ghost use Rattle.recorded.specs.Records.{IsMaced, flipped};
+ghost use Rattle.cuttings.specs.Pieces.{Macing, MacingPart, MacTagged, cutting_count};
 
-use crate::Step;
+use crate::Cuttings;
+use crate::cut::Cut;
+use answers::Refusal;
+use recorded::bytes;
+use recorded::list::Record;
 use session::Session;
 
-fn piece(s: Session, data: &[u8]) -> Step
-    ensures { result.equal ≡ true → Macing (session_of s) «data».now (session_of result.session) }
+#[tactic(auto, unfolding(promises::specs::SessionCalls::mac_piece))]
+fn piece(s: Session, data: &[u8]) -> Option<Session>
+    ensures { IfSome result (λ t. Macing (session_of s) «data».now (session_of t)) }
 {
-    let p = session_pieces::mac_piece(s, data);
-    if p.answer != answers::DONE {
-        return crate::differs(s);
-    }
-    let next = p.session;
-    Step {
-        equal: true,
-        session: next,
-    }
+    crate::session_after(session_pieces::mac_piece(s, data))
 }
 
 // The finish gives the tag.
-fn gives(s: Session, tag: &[u8], made: &mut [u8]) -> bool
-    ensures { result ≡ true → tag.now ≡ session_mac aegis128l mac_of_aegis128l (session_of s) }
+#[tactic(auto, unfolding(promises::specs::SessionCalls::mac_finish))]
+fn gives(s: Session, tag: &[u8], made: &mut [u8]) -> Option<()>
+    ensures { OnSome result (MacTagged tag.now (session_of s)) }
 {
-    if made.len() != tag.len() {
-        return false;
-    }
-    let p = session_finishes::mac_finish(s, made);
-    if p.answer != answers::DONE {
-        return false;
-    }
-    check::same(&made[..], tag)
+    crate::session_after(session_finishes::mac_finish(s, made))?;
+    bytes::same(made, tag)
 }
 
-// The check at the end gives this answer.
-fn checked(s: Session, tag: &[u8], answer: u8) -> bool
-    ensures { result ≡ true → (mac_finish_check aegis128l mac_of_aegis128l (session_of s) tag.now).answer ≡ answer }
+// The check at the end has this outcome.
+fn checked(s: Session, tag: &[u8], outcome: Result<(), Refusal>) -> Option<()>
+    ensures { OnSome result ((mac_finish_check aegis128l mac_of_aegis128l (session_of s) tag.now).answer
+        ≡ answer_of outcome) }
 {
-    let p = session_finishes::mac_finish_check(s, tag);
-    p.answer == answer
+    (session_finishes::mac_finish_check(s, tag).outcome == outcome).then_some(())
 }
 
 // A copied session goes on by itself: one is finished, one accepts the tag, and one refuses another.
-fn finish(s: Session, tag: &[u8], damaged: &[u8], made: &mut [u8]) -> bool
-    ensures { result ≡ true → tag.now ≡ session_mac aegis128l mac_of_aegis128l (session_of s) }
+fn finish(s: Session, tag: &[u8], damaged: &[u8], made: &mut [u8]) -> Option<()>
+    ensures { OnSome result (MacTagged tag.now (session_of s)) }
 {
-    if !gives(s, tag, made) {
-        return false;
-    }
-    if !checked(s, tag, answers::DONE) {
-        return false;
-    }
-    checked(s, damaged, answers::TAG_DIFFERS)
+    gives(s, tag, made)?;
+    checked(s, tag, Ok(()))?;
+    checked(s, damaged, Err(Refusal::TagDiffers))
 }
 
-// Cut at i and at j.
-fn in_three(
-    s: Session,
-    data: &[u8],
-    tag: &[u8],
-    damaged: &[u8],
-    i: usize,
-    j: usize,
-    made: &mut [u8],
-) -> bool
-    requires { (i ≤ j) × (j ≤ length «data».now) }
-    ensures { result ≡ true → MacsTo (session_of s) «data».now tag.now }
-{
-    let n = data.len();
-    let a = piece(s, &data[0..i]);
-    if !a.equal {
-        return false;
-    }
-    let b = piece(a.session, &data[i..j]);
-    if !b.equal {
-        return false;
-    }
-    let c = piece(b.session, &data[j..n]);
-    if !c.equal {
-        return false;
-    }
-    finish(c.session, tag, damaged, made)
+// Data to MAC, another tag than its own, and the buffer that the tag goes into.
+#[derive(Drop)]
+struct Macer<'a> {
+    parts: Record<'a>,
+    damaged: &'a [u8],
+    made: &'a mut [u8],
+    ghost one_bit_changed: { damaged.now ≡ flipped parts.tag.now },
 }
 
-// Cut after every byte.
-fn bytewise(s: Session, data: &[u8], tag: &[u8], damaged: &[u8], made: &mut [u8]) -> bool
-    ensures { result ≡ true → MacsTo (session_of s) «data».now tag.now }
-{
-    let mut t = s;
-    let mut i = 0;
-    while i < data.len() {
-        let e = i + 1;
-        let p = piece(t, &data[i..e]);
-        if !p.equal {
-            return false;
-        }
-        t = p.session;
-        i = e;
+impl Cut for Macer<'_> {
+    ghost use Rattle.cuttings.specs.Laws.{macing_laws};
+
+    ghost parts = { λ it. it.parts };
+
+    ghost size = { λ r. length r.msg.now };
+
+    ghost Taken = { λ r. MacingPart r.msg.now };
+
+    ghost Ended = { λ r. MacTagged r.tag.now };
+
+    ghost laws = { λ r. macing_laws r.msg.now };
+
+    fn len(&self) -> usize {
+        self.parts.msg.len()
     }
-    finish(t, tag, damaged, made)
+
+    fn piece(&mut self, s: Session, i: usize, j: usize) -> Option<Session> {
+        let msg = self.parts.msg;
+        piece(s, &msg[i..j])
+    }
+
+    fn finish(&mut self, s: Session) -> Option<()> {
+        finish(s, self.parts.tag, self.damaged, self.made)
+    }
 }
 
-// Cut at i and at every place from i on: how many cuttings were equal, or 0 where one was not.
-fn from_place(
-    s: Session,
-    data: &[u8],
-    tag: &[u8],
-    damaged: &[u8],
-    i: usize,
-    made: &mut [u8],
-) -> usize
-    requires { i ≤ length «data».now }
-    ensures { (0 < result → MacsTo (session_of s) «data».now tag.now) × (result ≤ length «data».now + 1) }
+// A session of the record's key and nonce.
+#[tactic(auto, unfolding(promises::specs::SessionCalls::mac_start))]
+fn start(record: &Record) -> Option<Session>
+    ensures { let r = «record».now in IfSome result (λ s. session_of s
+        ≡ started aegis128l (init r.key.now r.nonce.now) 0 (length r.tag.now) macing 0) }
 {
-    let mut j = i;
-    while j <= data.len() {
-        if !in_three(s, data, tag, damaged, i, j, made) {
-            return 0;
-        }
-        j += 1;
-    }
-    j - i
+    crate::session_after(session::starts::mac_start(record.key, record.nonce, record.tag.len()))
 }
 
-// Every cutting at two places, and after every byte.
-fn everywhere(s: Session, data: &[u8], tag: &[u8], damaged: &[u8], made: &mut [u8]) -> usize
-    requires { length «data».now ≤ 65 }
-    ensures { (0 < result → MacsTo (session_of s) «data».now tag.now) × (result ≤ 8192) }
+// A session that starts with the record, cut everywhere: how many cuttings there were, all equal.
+pub fn cuttings(record: &Record, damaged: &mut [u8], made: &mut [u8]) -> Option<Cuttings>
+    ensures maced { OnSome result (IsMaced «record».now) }
+    ensures counted { IfSome result (λ n. n.count ≡ cutting_count (length «record».now.msg.now)) }
 {
-    if !bytewise(s, data, tag, damaged, made) {
-        return 0;
+    if record.msg.len() > crate::LONGEST {
+        return None;
     }
-    let mut count = 1;
-    let mut i = 0;
-    while i <= data.len() {
-        let more = from_place(s, data, tag, damaged, i, made);
-        if more == 0 {
-            return 0;
-        }
-        count += more;
-        i += 1;
-    }
-    count
-}
-
-// A session of the record's key and nonce, cut everywhere.
-pub fn cuttings(
-    key: &[u8],
-    nonce: &[u8],
-    data: &[u8],
-    tag: &[u8],
-    damaged: &mut [u8],
-    made: &mut [u8],
-) -> usize
-    ensures { (0 < result → Maced key.now nonce.now «data».now tag.now) × (result ≤ 8192) }
-{
-    let n = data.len();
-    if n > crate::LONGEST {
-        return 0;
-    }
-    if !recorded::bytes::damage(tag, damaged) {
-        return 0;
-    }
-    let p = session::starts::mac_start(key, nonce, tag.len());
-    if p.answer != answers::DONE {
-        return 0;
-    }
-    everywhere(p.session, data, tag, &damaged[..], made)
+    bytes::damage(record.tag, damaged)?;
+    let s = start(record)?;
+    let mut macer = Macer {
+        parts: *record,
+        damaged,
+        made,
+    };
+    crate::cut::everywhere(&mut macer, s)
 }

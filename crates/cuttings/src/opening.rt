@@ -1,205 +1,118 @@
-// A sealed record through an opening session, cut at two places and after every byte. One plaintext buffer is lent at each call.
-ghost use Rattle.std.specs.Prelude.{◌≡◌, true, ◌≤◌, ◌<◌, ◌+◌, length};
+// A sealed record through an opening session. One plaintext buffer is lent at each call.
+ghost use Rattle.std.specs.Prelude.{◌≡◌, length, IfSome, OnSome};
 ghost use Rattle.machine.specs.Bytes.{zeros};
-ghost use Rattle.promises.specs.Session.{session_tag};
+ghost use Rattle.promises.specs.Session.{opening};
+ghost use Rattle.promises.specs.SessionCalls.{started};
+ghost use Rattle.promises.specs.Texts.{keyed};
 ghost use Rattle.aegis128l.specs.Cipher.{aegis128l};
 ghost use Rattle.session.specs.View.{session_of};
-ghost use Rattle.recorded.specs.Records.{Accepted};
-ghost use Rattle.cuttings.specs.Pieces.{Opening, Accepts};
+ghost use Rattle.recorded.specs.Records.{IsAccepted, flipped};
+ghost use Rattle.cuttings.specs.Pieces.{Opening, OpeningPart, Tagged, cutting_count};
 
-use crate::Step;
+use crate::Cuttings;
+use crate::cut::Cut;
+use answers::Refusal;
+use recorded::bytes;
+use recorded::list::Record;
 use session::Session;
 
 // After a piece the start of the buffer holds the message so far.
-fn piece(s: Session, ct: &[u8], so_far: &[u8], plain: &mut [u8]) -> Step
-    ensures { result.equal ≡ true → Opening (session_of s) ct.now (session_of result.session) }
+#[tactic(auto, unfolding(promises::specs::SessionCalls::open_piece))]
+fn piece(s: Session, ct: &[u8], so_far: &[u8], plain: &mut [u8]) -> Option<Session>
+    ensures { IfSome result (λ t. Opening (session_of s) ct.now (session_of t)) }
 {
-    let n = so_far.len();
-    if n > plain.len() {
-        return crate::differs(s);
-    }
-    let p = session_pieces::open_piece(s, ct, plain);
-    if p.answer != answers::DONE {
-        return crate::differs(s);
-    }
-    if !check::same(&plain[0..n], so_far) {
-        return crate::differs(s);
-    }
-    let next = p.session;
-    Step {
-        equal: true,
-        session: next,
-    }
+    let next = crate::session_after(session_pieces::open_piece(s, ct, plain))?;
+    plain.starts_with(so_far).then_some(next)
 }
 
 // The finish releases the message.
-fn released(s: Session, msg: &[u8], tag: &[u8], plain: &mut [u8]) -> bool
-    ensures { result ≡ true → tag.now ≡ session_tag aegis128l (session_of s) }
+#[tactic(auto, using(lent::proofs::Same::same_equal), unfolding(promises::specs::SessionCalls::open_finish, promises::specs::SessionCalls::released))]
+fn released(s: Session, msg: &[u8], tag: &[u8], plain: &mut [u8]) -> Option<()>
+    ensures { OnSome result (Tagged tag.now (session_of s)) }
 {
-    let f = session_finishes::open_finish(s, tag, plain);
-    let o = f.opened;
-    if o.answer != answers::DONE {
-        return false;
-    }
-    if o.count != msg.len() {
-        return false;
-    }
-    check::same(&plain[..], msg)
+    let count = session_finishes::open_finish(s, tag, plain).outcome.ok()?;
+    (count == msg.len() && &plain[..] == msg).then_some(())
 }
 
-// With another tag it answers 7, and leaves zeros.
-fn erased(s: Session, damaged: &[u8], plain: &mut [u8]) -> bool
-    ensures { result ≡ true → plain.new ≡ zeros (length plain.new) }
+// Another tag is refused, and zeros are left.
+fn erased(s: Session, damaged: &[u8], plain: &mut [u8]) -> Option<()>
+    ensures { OnSome result (plain.new ≡ zeros (length plain.new)) }
 {
-    let f = session_finishes::open_finish(s, damaged, plain);
-    let o = f.opened;
-    if o.answer != answers::TAG_DIFFERS {
-        return false;
-    }
-    if o.count != 0 {
-        return false;
-    }
-    recorded::bytes::is_zero(&plain[..])
+    let outcome = session_finishes::open_finish(s, damaged, plain).outcome;
+    (outcome == Err(Refusal::TagDiffers) && bytes::is_zero(plain)).then_some(())
 }
 
-fn finish(s: Session, msg: &[u8], tag: &[u8], damaged: &[u8], plain: &mut [u8]) -> bool
-    ensures { result ≡ true → tag.now ≡ session_tag aegis128l (session_of s) }
-{
-    if !released(s, msg, tag, plain) {
-        return false;
-    }
-    erased(s, damaged, plain)
+// A message to open, another tag than its own, and the buffer that the message goes into.
+#[derive(Drop)]
+struct Opener<'a> {
+    parts: Record<'a>,
+    damaged: &'a [u8],
+    plain: &'a mut [u8],
+    ghost one_length: { length parts.msg.now ≡ length parts.ct.now },
+    ghost one_bit_changed: { damaged.now ≡ flipped parts.tag.now },
 }
 
-// Cut at i and at j.
-fn in_three(
-    s: Session,
-    ct: &[u8],
-    msg: &[u8],
-    tag: &[u8],
-    damaged: &[u8],
-    i: usize,
-    j: usize,
-    plain: &mut [u8],
-) -> bool
-    requires i_le_j { (i ≤ j) × (j ≤ length ct.now) }
-    requires msg_len { length msg.now ≡ length ct.now }
-    ensures { result ≡ true → Accepts (session_of s) ct.now tag.now }
-{
-    let n = ct.len();
-    let a = piece(s, &ct[0..i], &msg[0..i], plain);
-    if !a.equal {
-        return false;
+impl Cut for Opener<'_> {
+    ghost use Rattle.cuttings.specs.Laws.{opening_laws};
+
+    ghost parts = { λ it. it.parts };
+
+    ghost size = { λ r. length r.ct.now };
+
+    ghost Taken = { λ r. OpeningPart r.ct.now };
+
+    ghost Ended = { λ r. Tagged r.tag.now };
+
+    ghost laws = { λ r. opening_laws r.ct.now };
+
+    fn len(&self) -> usize {
+        self.parts.ct.len()
     }
-    let b = piece(a.session, &ct[i..j], &msg[0..j], plain);
-    if !b.equal {
-        return false;
+
+    fn piece(&mut self, s: Session, i: usize, j: usize) -> Option<Session> {
+        let Record { msg, ct, .. } = self.parts;
+        piece(s, &ct[i..j], &msg[..j], self.plain)
     }
-    let c = piece(b.session, &ct[j..n], msg, plain);
-    if !c.equal {
-        return false;
+
+    // A copied session goes on by itself.
+    fn finish(&mut self, s: Session) -> Option<()> {
+        let Record { msg, tag, .. } = self.parts;
+        released(s, msg, tag, self.plain)?;
+        erased(s, self.damaged, self.plain)
     }
-    finish(c.session, msg, tag, damaged, plain)
 }
 
-// Cut after every byte.
-fn bytewise(s: Session, ct: &[u8], msg: &[u8], tag: &[u8], damaged: &[u8], plain: &mut [u8]) -> bool
-    requires { length msg.now ≡ length ct.now }
-    ensures { result ≡ true → Accepts (session_of s) ct.now tag.now }
+// A session of the record's key, nonce and AD, which is lent a buffer of this length at each call.
+#[tactic(auto, unfolding(promises::specs::SessionCalls::open_start))]
+fn start(record: &Record, room: usize) -> Option<Session>
+    ensures { let r = «record».now in IfSome result (λ s. session_of s
+        ≡ started aegis128l (keyed aegis128l r.key.now r.nonce.now r.ad.now)
+        (length r.ad.now) (length r.tag.now) opening room) }
 {
-    let mut t = s;
-    let mut i = 0;
-    while i < ct.len() {
-        let e = i + 1;
-        let p = piece(t, &ct[i..e], &msg[0..e], plain);
-        if !p.equal {
-            return false;
-        }
-        t = p.session;
-        i = e;
-    }
-    finish(t, msg, tag, damaged, plain)
+    crate::session_after(session::starts::open_start(
+        record.key,
+        record.nonce,
+        record.ad,
+        record.tag.len(),
+        room,
+    ))
 }
 
-// Cut at i and at every place from i on: how many cuttings were equal, or 0 where one was not.
-fn from_place(
-    s: Session,
-    ct: &[u8],
-    msg: &[u8],
-    tag: &[u8],
-    damaged: &[u8],
-    i: usize,
-    plain: &mut [u8],
-) -> usize
-    requires i_in_bounds { i ≤ length ct.now }
-    requires msg_len { length msg.now ≡ length ct.now }
-    ensures { (0 < result → Accepts (session_of s) ct.now tag.now) × (result ≤ length ct.now + 1) }
+// A session that starts with the record, cut everywhere: how many cuttings there were, all equal.
+pub fn cuttings(record: &Record, damaged: &mut [u8], plain: &mut [u8]) -> Option<Cuttings>
+    ensures accepted { OnSome result (IsAccepted «record».now) }
+    ensures counted { IfSome result (λ n. n.count ≡ cutting_count (length «record».now.ct.now)) }
 {
-    let mut j = i;
-    while j <= ct.len() {
-        if !in_three(s, ct, msg, tag, damaged, i, j, plain) {
-            return 0;
-        }
-        j += 1;
+    let n = record.ct.len();
+    if n > crate::LONGEST || record.msg.len() != n {
+        return None;
     }
-    j - i
-}
-
-// Every cutting at two places, and after every byte.
-fn everywhere(
-    s: Session,
-    ct: &[u8],
-    msg: &[u8],
-    tag: &[u8],
-    damaged: &[u8],
-    plain: &mut [u8],
-) -> usize
-    requires ct_len_bound { length ct.now ≤ 65 }
-    requires msg_len { length msg.now ≡ length ct.now }
-    ensures { (0 < result → Accepts (session_of s) ct.now tag.now) × (result ≤ 8192) }
-{
-    if !bytewise(s, ct, msg, tag, damaged, plain) {
-        return 0;
-    }
-    let mut count = 1;
-    let mut i = 0;
-    while i <= ct.len() {
-        let more = from_place(s, ct, msg, tag, damaged, i, plain);
-        if more == 0 {
-            return 0;
-        }
-        count += more;
-        i += 1;
-    }
-    count
-}
-
-// A session of the record's key, nonce and AD, cut everywhere.
-pub fn cuttings(
-    key: &[u8],
-    nonce: &[u8],
-    ad: &[u8],
-    msg: &[u8],
-    ct: &[u8],
-    tag: &[u8],
-    damaged: &mut [u8],
-    plain: &mut [u8],
-) -> usize
-    ensures { (0 < result → Accepted key.now nonce.now ad.now ct.now tag.now) × (result ≤ 8192) }
-{
-    let n = ct.len();
-    if n > crate::LONGEST {
-        return 0;
-    }
-    if msg.len() != n {
-        return 0;
-    }
-    if !recorded::bytes::damage(tag, damaged) {
-        return 0;
-    }
-    let p = session::starts::open_start(key, nonce, ad, tag.len(), plain.len());
-    if p.answer != answers::DONE {
-        return 0;
-    }
-    everywhere(p.session, ct, msg, tag, &damaged[..], plain)
+    bytes::damage(record.tag, damaged)?;
+    let s = start(record, plain.len())?;
+    let mut opener = Opener {
+        parts: *record,
+        damaged,
+        plain,
+    };
+    crate::cut::everywhere(&mut opener, s)
 }

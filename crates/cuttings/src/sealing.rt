@@ -1,198 +1,120 @@
-// A sealed record through a sealing session, cut at two places (one, where they are equal) and after every byte. The buffers that a call
-// writes are lent after the record's parts.
-ghost use Rattle.std.specs.Prelude.{◌≡◌, true, ◌≤◌, ◌<◌, ◌+◌, length};
-ghost use Rattle.promises.specs.Session.{session_tag};
+// A sealed record through a sealing session.
+ghost use Rattle.std.specs.Prelude.{◌≡◌, length, IfSome, OnSome};
+ghost use Rattle.promises.specs.Session.{sealing};
+ghost use Rattle.promises.specs.SessionCalls.{started};
+ghost use Rattle.promises.specs.Texts.{keyed};
 ghost use Rattle.aegis128l.specs.Cipher.{aegis128l};
 ghost use Rattle.session.specs.View.{session_of};
-ghost use Rattle.recorded.specs.Records.{Sealed};
-ghost use Rattle.cuttings.specs.Pieces.{Sealing, SealsTo};
+ghost use Rattle.recorded.specs.Records.{IsSealed};
+ghost use Rattle.cuttings.specs.Pieces.{Sealing, SealingPart, Tagged, cutting_count};
 
-use crate::Step;
+use crate::Cuttings;
+use crate::cut::Cut;
+use recorded::bytes;
+use recorded::list::Record;
 use session::Session;
 
-// A piece from one buffer to another gives the ciphertext's bytes at its place.
-fn piece(s: Session, msg: &[u8], ct: &[u8], buf: &mut [u8]) -> Step
-    ensures { result.equal ≡ true → Sealing (session_of s) msg.now ct.now (session_of result.session) }
+// From one buffer to another a piece gives the ciphertext's bytes at its place.
+#[tactic(auto, unfolding(promises::specs::SessionCalls::seal_piece))]
+fn piece(s: Session, msg: &[u8], ct: &[u8], buf: &mut [u8]) -> Option<Session>
+    ensures { IfSome result (λ t. Sealing (session_of s) msg.now ct.now (session_of t)) }
 {
-    let p = session_pieces::seal_piece(s, msg, buf);
-    if p.answer != answers::DONE {
-        return crate::differs(s);
-    }
-    if !check::same(&buf[..], ct) {
-        return crate::differs(s);
-    }
-    let next = p.session;
-    Step {
-        equal: true,
-        session: next,
-    }
+    let next = crate::session_after(session_pieces::seal_piece(s, msg, buf))?;
+    bytes::same(buf, ct)?;
+    Some(next)
 }
 
-// So does a piece in place.
-fn piece_in_place(s: Session, msg: &[u8], ct: &[u8], buf: &mut [u8]) -> Step
-    ensures { result.equal ≡ true → Sealing (session_of s) msg.now ct.now (session_of result.session) }
+// In place a piece gives the ciphertext's bytes at its place.
+#[tactic(auto, unfolding(promises::specs::SessionCalls::seal_piece_in_place))]
+fn piece_in_place(s: Session, msg: &[u8], ct: &[u8], buf: &mut [u8]) -> Option<Session>
+    ensures { IfSome result (λ t. Sealing (session_of s) msg.now ct.now (session_of t)) }
 {
-    if buf.len() != msg.len() {
-        return crate::differs(s);
-    }
-    lent::put(msg, buf);
-    let p = session_pieces::seal_piece_in_place(s, buf);
-    if p.answer != answers::DONE {
-        return crate::differs(s);
-    }
-    if !check::same(&buf[..], ct) {
-        return crate::differs(s);
-    }
-    let next = p.session;
-    Step {
-        equal: true,
-        session: next,
-    }
+    bytes::lay(msg, buf)?;
+    let next = crate::session_after(session_pieces::seal_piece_in_place(s, buf))?;
+    bytes::same(buf, ct)?;
+    Some(next)
 }
 
 // The finish gives the tag.
-fn finish(s: Session, tag: &[u8], made: &mut [u8]) -> bool
-    ensures { result ≡ true → tag.now ≡ session_tag aegis128l (session_of s) }
+#[tactic(auto, unfolding(promises::specs::SessionCalls::seal_finish))]
+fn finish(s: Session, tag: &[u8], made: &mut [u8]) -> Option<()>
+    ensures { OnSome result (Tagged tag.now (session_of s)) }
 {
-    if made.len() != tag.len() {
-        return false;
-    }
-    let p = session_finishes::seal_finish(s, made);
-    if p.answer != answers::DONE {
-        return false;
-    }
-    check::same(&made[..], tag)
+    crate::session_after(session_finishes::seal_finish(s, made))?;
+    bytes::same(made, tag)
 }
 
-// Cut at i and at j.
-fn in_three(
-    s: Session,
-    msg: &[u8],
-    ct: &[u8],
-    tag: &[u8],
-    i: usize,
-    j: usize,
-    buf: &mut [u8],
-    made: &mut [u8],
-) -> bool
-    requires i_le_j { (i ≤ j) × (j ≤ length msg.now) }
-    requires ct_len { (length ct.now ≡ length msg.now) × (length buf.old ≡ length msg.now) }
-    ensures { result ≡ true → SealsTo (session_of s) msg.now ct.now tag.now }
-{
-    let n = msg.len();
-    let a = piece(s, &msg[0..i], &ct[0..i], &mut buf[0..i]);
-    if !a.equal {
-        return false;
-    }
-    let b = piece_in_place(a.session, &msg[i..j], &ct[i..j], &mut buf[i..j]);
-    if !b.equal {
-        return false;
-    }
-    let c = piece(b.session, &msg[j..n], &ct[j..n], &mut buf[j..n]);
-    if !c.equal {
-        return false;
-    }
-    finish(c.session, tag, made)
+// A message to seal, and what the session writes: the ciphertext into `buf`, the tag into `made`.
+#[derive(Drop)]
+struct Sealer<'a> {
+    parts: Record<'a>,
+    buf: &'a mut [u8],
+    made: &'a mut [u8],
+    ghost one_length: { (length parts.ct.now ≡ length parts.msg.now)
+        × (length buf.now ≡ length parts.msg.now) },
 }
 
-// Cut after every byte.
-fn bytewise(s: Session, msg: &[u8], ct: &[u8], tag: &[u8], buf: &mut [u8], made: &mut [u8]) -> bool
-    requires { (length ct.now ≡ length msg.now) × (length buf.old ≡ length msg.now) }
-    ensures { result ≡ true → SealsTo (session_of s) msg.now ct.now tag.now }
-{
-    let mut t = s;
-    let mut i = 0;
-    while i < msg.len() {
-        let e = i + 1;
-        let p = piece(t, &msg[i..e], &ct[i..e], &mut buf[i..e]);
-        if !p.equal {
-            return false;
-        }
-        t = p.session;
-        i = e;
+impl Cut for Sealer<'_> {
+    ghost use Rattle.cuttings.specs.Laws.{sealing_laws};
+
+    ghost parts = { λ it. it.parts };
+
+    ghost size = { λ r. length r.msg.now };
+
+    ghost Taken = { λ r. SealingPart r.msg.now r.ct.now };
+
+    ghost Ended = { λ r. Tagged r.tag.now };
+
+    ghost laws = { λ r. sealing_laws r.msg.now r.ct.now };
+
+    fn len(&self) -> usize {
+        self.parts.msg.len()
     }
-    finish(t, tag, made)
+
+    fn piece(&mut self, s: Session, i: usize, j: usize) -> Option<Session> {
+        let Record { msg, ct, .. } = self.parts;
+        piece(s, &msg[i..j], &ct[i..j], &mut self.buf[i..j])
+    }
+
+    fn middle(&mut self, s: Session, i: usize, j: usize) -> Option<Session> {
+        let Record { msg, ct, .. } = self.parts;
+        piece_in_place(s, &msg[i..j], &ct[i..j], &mut self.buf[i..j])
+    }
+
+    fn finish(&mut self, s: Session) -> Option<()> {
+        finish(s, self.parts.tag, self.made)
+    }
 }
 
-// Cut at i and at every place from i on: how many cuttings were equal, or 0 where one was not.
-fn from_place(
-    s: Session,
-    msg: &[u8],
-    ct: &[u8],
-    tag: &[u8],
-    i: usize,
-    buf: &mut [u8],
-    made: &mut [u8],
-) -> usize
-    requires i_in_bounds { i ≤ length msg.now }
-    requires ct_len { (length ct.now ≡ length msg.now) × (length buf.old ≡ length msg.now) }
-    ensures { (0 < result → SealsTo (session_of s) msg.now ct.now tag.now) × (result ≤ length msg.now + 1) }
+// A session of the record's key, nonce and AD.
+#[tactic(auto, unfolding(promises::specs::SessionCalls::seal_start))]
+fn start(record: &Record) -> Option<Session>
+    ensures { let r = «record».now in IfSome result (λ s. session_of s
+        ≡ started aegis128l (keyed aegis128l r.key.now r.nonce.now r.ad.now)
+        (length r.ad.now) (length r.tag.now) sealing 0) }
 {
-    let mut j = i;
-    while j <= msg.len() {
-        if !in_three(s, msg, ct, tag, i, j, buf, made) {
-            return 0;
-        }
-        j += 1;
-    }
-    j - i
+    crate::session_after(session::starts::seal_start(
+        record.key,
+        record.nonce,
+        record.ad,
+        record.tag.len(),
+    ))
 }
 
-// Every cutting at two places, and after every byte.
-fn everywhere(
-    s: Session,
-    msg: &[u8],
-    ct: &[u8],
-    tag: &[u8],
-    buf: &mut [u8],
-    made: &mut [u8],
-) -> usize
-    requires msg_len_bound { length msg.now ≤ 65 }
-    requires ct_len { (length ct.now ≡ length msg.now) × (length buf.old ≡ length msg.now) }
-    ensures { (0 < result → SealsTo (session_of s) msg.now ct.now tag.now) × (result ≤ 8192) }
+// A session that starts with the record, cut everywhere: how many cuttings there were, all equal.
+pub fn cuttings(record: &Record, buf: &mut [u8], made: &mut [u8]) -> Option<Cuttings>
+    ensures sealed { OnSome result (IsSealed «record».now) }
+    ensures counted { IfSome result (λ n. n.count ≡ cutting_count (length «record».now.msg.now)) }
 {
-    if !bytewise(s, msg, ct, tag, buf, made) {
-        return 0;
+    let n = record.msg.len();
+    if n > crate::LONGEST || record.ct.len() != n || buf.len() != n {
+        return None;
     }
-    let mut count = 1;
-    let mut i = 0;
-    while i <= msg.len() {
-        let more = from_place(s, msg, ct, tag, i, buf, made);
-        if more == 0 {
-            return 0;
-        }
-        count += more;
-        i += 1;
-    }
-    count
-}
-
-// A session of the record's key, nonce and AD, cut everywhere.
-pub fn cuttings(
-    key: &[u8],
-    nonce: &[u8],
-    ad: &[u8],
-    msg: &[u8],
-    ct: &[u8],
-    tag: &[u8],
-    buf: &mut [u8],
-    made: &mut [u8],
-) -> usize
-    ensures { (0 < result → Sealed key.now nonce.now ad.now msg.now ct.now tag.now) × (result ≤ 8192) }
-{
-    let n = msg.len();
-    if n > crate::LONGEST {
-        return 0;
-    }
-    if ct.len() != n {
-        return 0;
-    }
-    if buf.len() != n {
-        return 0;
-    }
-    let p = session::starts::seal_start(key, nonce, ad, tag.len());
-    if p.answer != answers::DONE {
-        return 0;
-    }
-    everywhere(p.session, msg, ct, tag, buf, made)
+    let s = start(record)?;
+    let mut sealer = Sealer {
+        parts: *record,
+        buf,
+        made,
+    };
+    crate::cut::everywhere(&mut sealer, s)
 }

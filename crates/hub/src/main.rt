@@ -10,8 +10,7 @@ fn main() {
     // One byte more than a record may have tells that the input is too long.
     let mut buf = [0u8; hub_record::INPUT_LIMIT + 1];
     let n = io::read_full(STDIN, &mut buf);
-    let r = hub_record::reply::reply(&mut buf, n);
-    let a = r.start;
-    let e = a + r.count;
-    io::write_all(STDOUT, &buf[a..e]);
+    let reply = hub_record::reply::reply(&mut buf, n);
+    let end = reply.start + reply.count;
+    io::write_all(STDOUT, &buf[reply.start..end]);
 }

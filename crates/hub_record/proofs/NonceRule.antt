@@ -1,10 +1,9 @@
 -- Two pairs of a scale number and a record number, each below 2^64, give the same nonce only if they are the same pair.
 -- Assumes nothing.
 use Prim.Native.Nat.{ℕ, ◌+◌, ◌^◌, ◌<◌}
-use mathlib.Core.Path.{◌≡◌, ap, ◌∙◌}
-use mathlib.Core.List.{List, [], ◌∷◌, ◌++◌}
+use mathlib.Core.Path.{◌≡◌, ap}
+use mathlib.Core.List.{List, [], ◌∷◌}
 use lib.ListN.{get_or}
-use Rattle.machine.specs.Lengths.{le64}
 use Rattle.machine.proofs.Lengths.{le64_injective}
 use Rattle.hub_record.specs.Nonce.{nonce_of}
 
@@ -21,9 +20,3 @@ nonce_unique scale number scale' number' hs hn hs' hn' e = (
   le64_injective scale scale' hs hs' (ap (eight 0) e),
   le64_injective number number' hn hn' (ap (eight 8) e),
 )
-
--- ---- what the code stores
-
-pub joined : (scale number : ℕ) {s n r : List ℕ} → s ≡ le64 scale → n ≡ le64 number → r ≡ s ++ n → r ≡ nonce_of scale number
-unfolding nonce_of
-joined scale number es en er = er ∙ (λ i. es i ++ en i)

@@ -38,12 +38,12 @@ module _ (l : List ℕ) where
     pub verdict_refused : (v ≡ 0 → ⊥) → refused_record o v ≡ open_record_of l
     verdict_refused n = refused_by v o _ n ∙ verdict
 
-    pub verdict-opened : v ≡ 0 → record { answer = 0; start = a; count = e - a; input = o } ≡ open_record_of l
-    verdict-opened z = opened_by v z ∙ verdict
+    pub verdict-opened : (n : ℕ) → n ≡ e - a → v ≡ 0 → record { answer = 0; start = a; count = n; input = o } ≡ open_record_of l
+    verdict-opened n k z = opened_by v z ∙ verdict
       where
         opened_by : (v : ℕ) → v ≡ 0
-            → ◌≡◌ {A = RecordLeft} (record { answer = 0; start = a; count = e - a; input = o }) (opened_record a e (record { answer = v; out = o }))
-        opened_by v z = rw z refl
+            → ◌≡◌ {A = RecordLeft} (record { answer = 0; start = a; count = n; input = o }) (opened_record a e (record { answer = v; out = o }))
+        opened_by v z = rw (z, k) refl
 
 -- ---- where the plaintext stands
 

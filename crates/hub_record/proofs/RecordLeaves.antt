@@ -82,7 +82,7 @@ record_leaves l =
     ⊎_elim
     (λ z.
     ⊎_elim
-    (λ v. subst (Leaves l) (verdict-opened l (text_start l) (text_end l) 0 _ z refl refl (sym v) refl) opened)
+    (λ v. subst (Leaves l) (verdict-opened l (text_start l) (text_end l) 0 _ z refl refl (sym v) _ refl refl) opened)
     (λ v. subst (Leaves l) (verdict_refused l (text_start l) (text_end l) 7 _ z refl refl (sym v) (λ e. omega (arith, e))) erased)
     (verdicts l (shape_ok _ _ _ z) _ refl))
     (λ h.

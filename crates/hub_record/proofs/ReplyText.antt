@@ -12,7 +12,7 @@ use lib.ListN.{length, take, drop, length-append, take-append-drop}
 use lib.Seq.{take_at, drop_at, length-take-le}
 use borrow.Author.Tests.{le-leb}
 use borrow.Rule.Slice.PartMut.{mid_len}
-use Rattle.hub_record.specs.declared.reply.Part.{Part}
+use Rattle.hub_record.specs.declared.part.Part.{Part}
 use Rattle.hub_record.specs.View.{replied}
 use Rattle.hub_record.specs.Record.{text_limit, between, text_start, text_end, RecordLeft, shape, open_record_of}
 use Rattle.hub_record.specs.Decimal.{digits, decimal}
@@ -49,7 +49,7 @@ module _ (l : List ℕ) where
   -- a refusal has at most 11 bytes
   refused_length : (left.answer ≡ 0 → ⊥) → length (text_of left) ≤ 11
   refused_length n =
-      let k : length (decimal left.answer) ≤ 2 = decimal-length 1 left.answer (small (record_leaves l)) in
+      let k : length (decimal left.answer) ≤ 2 = decimal-length 1 left.answer (small (record_leaves l)) (omega (arith, small (record_leaves l))) in
       rw (text_refused left n) (line-length refused_word left.answer 2 k)
 
   -- the line of an opened record fits in the place of its head
@@ -60,7 +60,7 @@ module _ (l : List ℕ) where
       let f : left.count ≤ text_limit
       = let e : left.count ≡ text_end l - text_start l = ap (λ (r : RecordLeft). r.count) o.left in
       omega (arith, o.shaped.text_fits) in
-      let k : length (decimal left.count) ≤ 20 = decimal-length 19 left.count (omega arith) in
+      let k : length (decimal left.count) ≤ 20 = decimal-length 19 left.count (omega arith) (omega arith) in
       let n = line-length opened_word left.count 20 k in
       let b : length (between left.start (left.start + left.count) left.input) ≡ left.count
       = mid_len left.start (left.start + left.count) left.input w.1 ∙ omega arith in

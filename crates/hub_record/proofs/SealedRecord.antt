@@ -196,9 +196,7 @@ module _ (key nonce ad text tag : List ℕ) (fit : Fitting key nonce ad text tag
         ≡ record { answer = 0; start = head_size + length ad; count = length msg; input = record_of key nonce ad msg tag }
     sealed_record_opens =
         let n : length text ≡ length msg = form_length aegis128l key nonce ad msg text tag form in
-        let k : end - start ≡ length msg = omega arith in
-        sym (verdict-opened whole start end 0 _ shaped start_is end_is (sym parts_are) refl)
-        ∙ ap (λ (j : ℕ). record { answer = 0; start = start; count = j; input = record_of key nonce ad msg tag }) k
+        sym (verdict-opened whole start end 0 _ shaped start_is end_is (sym parts_are) (length msg) (omega arith) refl)
 
 -- ---- what seal writes makes such a record, for every message within the limits
 

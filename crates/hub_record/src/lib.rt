@@ -4,6 +4,7 @@
 mod line;
 pub mod nonce;
 pub mod opening;
+pub mod part;
 pub mod reply;
 pub mod shape;
 

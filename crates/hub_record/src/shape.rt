@@ -1,29 +1,29 @@
-// The shape of a hub record, on numbers: the first rule that it breaks, in document 01's order, or 0.
+// The shape of a hub record, on numbers: the first rule that it breaks, in document 01's order.
 ghost use Rattle.std.specs.Prelude.{◌≡◌};
+ghost use Rattle.answers.specs.Answers.{unless};
+ghost use Rattle.answers.specs.Refusals.{number, answer_of};
 ghost use Rattle.hub_record.specs.Record as spec;
 
-// `n` is the input's length, `tag` the tag size and `ad` the AD length that its head gives.
-pub fn shape(n: usize, tag: u8, ad: u16) -> u8
-    ensures { result ≡ spec.shape n tag ad }
+use crate::{AD_LIMIT, HEAD, INPUT_LIMIT, TEXT_LIMIT};
+use answers::Refusal;
+use answers::once::tag_size;
+
+// A rung of the ladder.
+fn refuse_unless(holds: bool, refusal: Refusal) -> Result<(), Refusal>
+    ensures { answer_of result ≡ unless (number refusal) holds 0 }
 {
-    if n > crate::INPUT_LIMIT {
-        return answers::WRONG_SHAPE;
-    }
-    if n < crate::HEAD {
-        return answers::WRONG_SHAPE;
-    }
-    if ad as usize > crate::AD_LIMIT {
-        return answers::WRONG_SHAPE;
-    }
-    if !answers::once::tag_size(tag as usize) {
-        return answers::TAG_SIZE;
-    }
-    let least = crate::HEAD + ad as usize + tag as usize;
-    if least > n {
-        return answers::WRONG_SHAPE;
-    }
-    if n > least + crate::TEXT_LIMIT {
-        return answers::WRONG_SHAPE;
-    }
-    answers::DONE
+    if holds { Ok(()) } else { Err(refusal) }
+}
+
+// `n` is the input's length, `tag` the tag size and `ad` the AD length that its head gives.
+pub fn shape(n: usize, tag: u8, ad: u16) -> Result<(), Refusal>
+    ensures { answer_of result ≡ spec.shape n tag ad }
+{
+    let least = HEAD + ad as usize + tag as usize;
+    refuse_unless(n <= INPUT_LIMIT, Refusal::WrongShape)?;
+    refuse_unless(HEAD <= n, Refusal::WrongShape)?;
+    refuse_unless(ad as usize <= AD_LIMIT, Refusal::WrongShape)?;
+    refuse_unless(tag_size(tag as usize), Refusal::TagSize)?;
+    refuse_unless(least <= n, Refusal::WrongShape)?;
+    refuse_unless(n <= least + TEXT_LIMIT, Refusal::WrongShape)
 }

@@ -2,7 +2,7 @@
 -- Assumes nothing.
 use Prim.Native.Nat.{ℕ, ◌*◌, ◌/◌, ◌%◌, ◌^◌, ◌<◌}
 use mathlib.Core.Path.{◌≡◌, sym, ap, ◌∙◌}
-use mathlib.Core.List.{List, ◌++◌}
+use mathlib.Core.List.{List}
 use native.Mathlib.Nat.{mod-lt, div-div-eq-div-mul}
 use native.Mathlib.Omega.{arith}
 use lib.Dec.{lit<}
@@ -39,8 +39,3 @@ le64-bytes n = (m n, (m (n / 2 ^ 8), (m (n / 2 ^ 16), (m (n / 2 ^ 24), (m (n / 2
 pub length_block-bytes : (a b : ℕ) → Bytes (length_block a b)
 unfolding length_block
 length_block-bytes a b = bytes-append (le64 (a * 8)) (le64 (b * 8)) (le64-bytes (a * 8)) (le64-bytes (b * 8))
-
--- a block of two lengths, from its two halves
-pub lengths_joined : (a b : ℕ) {x y l : List ℕ} → x ≡ le64 (a * 8) → y ≡ le64 (b * 8) → l ≡ x ++ y → l ≡ length_block a b
-unfolding length_block
-lengths_joined a b ex ey el = el ∙ (λ i. ex i ++ ey i)

@@ -1,14 +1,9 @@
--- A world of crates that has this crate's table of functions, and those of the crates below, has the code of each function that is called from above, and of all that it
--- calls. The table is the one that Rattle makes of src/.
+-- A world of crates that has this crate's table of functions, and the code of each function that they call, has the code of each function here that is
+-- called from above. The table, and what is called, are as Rattle makes them of src/.
 -- Assumes nothing.
 use Rattle.std.proofs.Common.{true}
 use prog.Linked.{Tree, World, Holds, in_world}
 use prog.LinkedThreads.{HasT}
-use Rattle.aes.proofs.Linked as aes
-use Rattle.answers.proofs.Linked as answers
-use Rattle.lent.proofs.Linked as lent
-use Rattle.aegis128l.proofs.Linked as aegis128l
-use Rattle.aegis128l_core.proofs.Linked as aegis128l_core
 use Rattle.oneshot.proofs.TheLink as link
 use Rattle.oneshot.proofs.aegis128l_open.Symbol as aegis128l_open-symbol
 use Rattle.oneshot.proofs.aegis128l_open_in_place.Symbol as aegis128l_open_in_place-symbol
@@ -22,55 +17,11 @@ use Rattle.oneshot.proofs.stream.aegis128l_stream_xor.Symbol as stream_aegis128l
 pub table : Tree
 table = link.table
 
-module _ (W : World) (aes-held : Holds W "aes" aes.table) (answers-held : Holds W "answers" answers.table) (lent-held : Holds W "lent" lent.table) (aegis128l-held : Holds W "aegis128l" aegis128l.table) (aegis128l_core-held : Holds W "aegis128l_core" aegis128l_core.table) (held : Holds W "oneshot" table) where
-  below : link.Below W
-  below = (
-    aegis128l.state_State_absorb W aes-held lent-held aegis128l-held,
-    (
-      aegis128l.state_State_new W aes-held lent-held aegis128l-held,
-      (
-        aegis128l.state_State_tag W aes-held lent-held aegis128l-held,
-        (
-          aegis128l_core.Core_close W aes-held lent-held aegis128l-held aegis128l_core-held,
-          (
-            aegis128l_core.Core_start W aes-held lent-held aegis128l-held aegis128l_core-held,
-            (
-              aegis128l_core.Core_transform W aes-held lent-held aegis128l-held aegis128l_core-held,
-              (
-                aegis128l_core.absorb_ad W aes-held lent-held aegis128l-held aegis128l_core-held,
-                (
-                  aegis128l_core.stream_stream_xor W aes-held lent-held aegis128l-held aegis128l_core-held,
-                  (
-                    aes.sbox W aes-held,
-                    (
-                      answers.once_mac W answers-held,
-                      (
-                        answers.once_one_shot W answers-held,
-                        (
-                          answers.once_stream W answers-held,
-                          (
-                            lent.put W lent-held,
-                            (
-                              lent.tags_match W lent-held,
-                              (
-                                lent.wipe W lent-held,
-                                tt,
-                              ),
-                            ),
-                          ),
-                        ),
-                      ),
-                    ),
-                  ),
-                ),
-              ),
-            ),
-          ),
-        ),
-      ),
-    ),
-  )
+-- the code of the functions of other crates that are called here, as Rattle lists them
+abbrev pub Below : World → Type 0
+Below = link.Below
 
+module _ (W : World) (held : Holds W "oneshot" table) (below : Below W) where
   pub aegis128l_open : HasT (in_world W) true aegis128l_open-symbol.code
   unfolding table
   aegis128l_open = link.linked-oneshot::aegis128l_open W held below

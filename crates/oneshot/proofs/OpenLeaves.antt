@@ -1,88 +1,91 @@
--- What opening leaves, for any cipher, from what its steps leave: the ciphertext is laid over the output and opened there, and wiped if the
--- tag differs.
+-- What opening leaves, for any cipher, from what its steps leave: in place the buffer becomes the message, and is wiped if the tag differs; else the
+-- ciphertext is laid over the output, and opened in place there.
 -- Assumes nothing.
-use Prim.Native.Nat.{ℕ, ◌-◌, ◌≤◌}
+use Prim.Native.Nat.{ℕ}
 use mathlib.Core.Path.{◌≡◌, sym, ap, ◌∙◌}
 use mathlib.Core.Bool.{Bool, true, false}
 use mathlib.Core.List.{List, ◌++◌}
+use native.Mathlib.Nat.{le_of_eq}
 use native.Mathlib.Omega.{arith}
-use lib.ListN.{length, take, drop, replicate, length-replicate}
-use lib.Seq.{drop_at}
-use Rattle.answers.specs.Answers.{one_shot}
-use Rattle.answers.proofs.Answers.{one_shot_ok}
+use lib.ListN.{length, take, drop, replicate, length-replicate, drop_of_length-le}
+use Rattle.answers.specs.declared.Refusal.{Refusal}
+use Rattle.answers.specs.Refusals.{number}
+use Rattle.answers.specs.Answers.{unless}
+use Rattle.answers.proofs.Refusals.{number_zero}
+use Rattle.answers.proofs.Answers.{ok_one_shot}
 use Rattle.lent.specs.Lent.{over, wiped, same}
 use Rattle.lent.proofs.Wiped.{wiped-fits}
 use Rattle.promises.specs.Cipher.{Cipher}
+use Rattle.promises.specs.OneShot.{Left, verdict, open_of}
 use Rattle.promises.specs.Texts.{onto, plaintext, open_tag}
-use Rattle.promises.specs.OneShot.{verdict, open_of}
-use Rattle.promises.proofs.Ladder.{refuses, does}
-use Rattle.promises.proofs.Onto.{length-onto}
+use Rattle.promises.proofs.Allowed.{ladder, Sizes}
+use Rattle.promises.proofs.Ladder.{refuses}
+use Rattle.promises.proofs.Onto.{onto-whole}
 use Rattle.promises.proofs.Texts.{plaintext-length}
 use Rattle.oneshot.specs.Leaves.{left}
-use Rattle.oneshot.proofs.Laid.{text_there, worked_over, worked_in_place}
+use Rattle.oneshot.proofs.Laid.{text_there, worked_over}
+use Rattle.oneshot.proofs.Expected.{in_place}
 
--- n bytes wiped where a text of n bytes had been written
-wiped-onto : (n v : ℕ) (xs buf : List ℕ) → length xs ≡ n → n ≤ length buf → wiped n v (onto xs buf) ≡ onto (replicate n v) buf
-wiped-onto n v xs buf e h =
-    let l : length (onto xs buf) ≡ length buf = length-onto xs buf (omega arith) in
-    wiped-fits n v (onto xs buf) (omega arith)
-    ∙ ap (λ (r : List ℕ). replicate n v ++ r) (drop_at xs (drop (length xs) buf) n e)
-    ∙ ap (λ (k : ℕ). replicate n v ++ drop k buf) (e ∙ sym (length-replicate n v))
+-- a whole buffer wiped where a text of its length had been written
+wiped-whole : (v : ℕ) (ys buf : List ℕ) → length ys ≡ length buf → wiped (length buf) v ys ≡ onto (replicate (length buf) v) buf
+wiped-whole v ys buf e =
+    wiped-fits (length buf) v ys (le_of_eq (sym e))
+    ∙ ap (λ (r : List ℕ). replicate (length buf) v ++ r)
+    (drop_of_length-le ys {i = length buf} (le_of_eq e) ∙ sym (drop_of_length-le buf {i = length (replicate (length buf) v)} (le_of_eq (sym (length-replicate (length buf) v)))))
 
 module _ {S : Type 0} (C : Cipher S) (key nonce ad : List ℕ) where
-  open C use {size}
-
   abbrev opening : List ℕ → List ℕ
   opening = plaintext C key nonce ad
 
   as_long : (ct : List ℕ) → length (opening ct) ≡ length ct
   as_long = plaintext-length C key nonce ad
 
-  module _ (ct tag out : List ℕ) {b : ℕ}
-      (answer : b ≡ one_shot size (length tag) (length key) (length nonce) (length ad) (length ct) (length out)) where
-    pub open_refuses : (b ≡ 0 → ⊥) → left b out ≡ open_of C key nonce ad ct tag out
-    unfolding open_of
-    open_refuses h = refuses _ b _ _ answer h
+  -- the tag that a ciphertext is to have, beside the one that came
+  abbrev passes : List ℕ → List ℕ → Bool
+  passes ct tag = same tag (open_tag C key nonce ad ct (length tag))
 
-    room : b ≡ 0 → length ct ≤ length out
-    room z = (one_shot_ok (sym answer ∙ z)).in_room
+  pub open_refuses : (ct tag out : List ℕ) (r : Refusal) → number r ≡ ladder C key nonce ad tag ct out
+      → left (number r) out ≡ open_of C key nonce ad ct tag out
+  unfolding open_of
+  open_refuses ct tag out r e = refuses _ _ _ _ e (number_zero r)
 
-    -- the message stands in the output as ys, and r is the verdict
-    module _ (z : b ≡ 0) {ys : List ℕ} {r : Bool} (ey : ys ≡ onto (opening ct) out) (er : r ≡ same tag (open_tag C key nonce ad ct (length tag))) where
-      judged : {v : Bool} → r ≡ v → {zs : List ℕ} {a : ℕ} → left a zs ≡ verdict v (opening ct) ct out → left a zs ≡ open_of C key nonce ad ct tag out
-      unfolding open_of
-      judged ev e = does _ b _ _ _ answer z (e ∙ ap (λ (v : Bool). verdict v (opening ct) ct out) (sym ev ∙ er))
+  open_done : (ct tag out : List ℕ) → Sizes C key nonce ad tag ct out → open_of C key nonce ad ct tag out ≡ verdict (passes ct tag) (opening ct) ct out
+  unfolding open_of
+  open_done ct tag out ok = rw (ok_one_shot ok)
 
-      releases : r ≡ true → left 0 ys ≡ open_of C key nonce ad ct tag out
-      unfolding verdict
-      releases t = judged t (ap (left 0) ey)
+  -- in place: the message stands in the buffer as ys, and a is the answer of the verdict v
+  module _ (buf tag : List ℕ) (ok : Sizes C key nonce ad tag buf buf) {ys : List ℕ} (ey : ys ≡ opening buf) where
+    judged : (v : Bool) → v ≡ passes buf tag → {a : ℕ} {zs : List ℕ} → left a zs ≡ verdict v (opening buf) buf buf
+        → left a zs ≡ open_of C key nonce ad buf tag buf
+    judged v ev e = e ∙ ap (λ (t : Bool). verdict t (opening buf) buf buf) ev ∙ sym (open_done buf tag buf ok)
 
-      erases : r ≡ false → {zs : List ℕ} → zs ≡ wiped (length ct) 0xaa ys → left 7 zs ≡ open_of C key nonce ad ct tag out
-      unfolding verdict
-      erases t ez = judged t (ap (left 7)
-          (ez ∙ ap (wiped (length ct) 0xaa) ey ∙ wiped-onto (length ct) 0xaa (opening ct) out (as_long ct) (room z)))
+    pub releases : (v : Bool) → v ≡ passes buf tag → {a : ℕ} → a ≡ unless 7 v 0 → 0 ≡ unless 7 v 0 → left a ys ≡ open_of C key nonce ad buf tag buf
+    unfolding verdict
+    releases true ev ea z = judged true ev (λ i. left (ea i) ((ey ∙ sym (onto-whole (opening buf) buf (le_of_eq (sym (as_long buf))))) i))
+    releases false ev ea z = absurd (omega (arith, z))
 
-    -- the ciphertext was laid over the output as o, and its bytes there came back as ys
-    module _ (z : b ≡ 0) {o ys : List ℕ} {r : Bool} (eo : o ≡ over ct out) (ey : ys ≡ opening (take (length ct - 0) o))
-        (er : r ≡ same tag (open_tag C key nonce ad (take (length ct - 0) o) (length tag))) where
-      written : ys ++ drop (length ct - 0) o ≡ onto (opening ct) out
-      written = worked_over ct out (room z) eo opening (as_long ct) ey
+    pub erases : (v : Bool) → v ≡ passes buf tag → {a : ℕ} → a ≡ unless 7 v 0 → (r : Refusal) → number r ≡ unless 7 v 0
+        → {zs : List ℕ} → zs ≡ wiped (length buf) 0xaa ys → left a zs ≡ open_of C key nonce ad buf tag buf
+    unfolding verdict
+    erases true ev ea r e ez = absurd (number_zero r e)
+    erases false ev ea r e ez =
+        judged false ev (λ i. left (ea i) ((ez ∙ wiped-whole 0xaa _ buf (ap length ey ∙ as_long buf)) i))
 
-      said : r ≡ same tag (open_tag C key nonce ad ct (length tag))
-      said = er ∙ ap (λ (x : List ℕ). same tag (open_tag C key nonce ad x (length tag))) (text_there ct out (room z) eo)
+  -- the ciphertext was laid over the output as o, and its bytes there were opened in place
+  module _ (ct tag out : List ℕ) (ok : Sizes C key nonce ad tag ct out) {o : List ℕ} (eo : o ≡ over ct out) where
+    judged_over : (v : Bool) {a : ℕ} {ys : List ℕ} → left a ys ≡ verdict v (opening ct) ct ct
+        → left a (ys ++ drop (length ct) o) ≡ verdict v (opening ct) ct out
+    unfolding verdict
+    judged_over true e =
+        let there = worked_over ct out ok.in_room eo _ (as_long ct) (ap (λ (l : Left). l.out) e) in
+        (λ i. left (ap (λ (l : Left). l.answer) e i) (there i))
+    judged_over false e =
+        let there = worked_over ct out ok.in_room eo (replicate (length ct) 0xaa) (length-replicate (length ct) 0xaa) (ap (λ (l : Left). l.out) e) in
+        (λ i. left (ap (λ (l : Left). l.answer) e i) (there i))
 
-      pub opens-over : r ≡ true → left 0 (ys ++ drop (length ct - 0) o) ≡ open_of C key nonce ad ct tag out
-      opens-over = releases z written said
-
-      pub erases_over : r ≡ false → {zs : List ℕ} → zs ≡ wiped (length ct) 0xaa (ys ++ drop (length ct - 0) o)
-          → left 7 zs ≡ open_of C key nonce ad ct tag out
-      erases_over t ez = erases z written said t ez
-
-  module _ (buf tag : List ℕ) {b : ℕ}
-      (answer : b ≡ one_shot size (length tag) (length key) (length nonce) (length ad) (length buf) (length buf)) (z : b ≡ 0)
-      {ys : List ℕ} {r : Bool} (ey : ys ≡ opening buf) (er : r ≡ same tag (open_tag C key nonce ad buf (length tag))) where
-    pub opens_in_place : r ≡ true → left 0 ys ≡ open_of C key nonce ad buf tag buf
-    opens_in_place = releases buf tag buf answer z (worked_in_place opening buf (as_long buf) ey) er
-
-    pub erases_in_place : r ≡ false → {zs : List ℕ} → zs ≡ wiped (length buf) 0xaa ys → left 7 zs ≡ open_of C key nonce ad buf tag buf
-    erases_in_place t ez = erases buf tag buf answer z (worked_in_place opening buf (as_long buf) ey) er t ez
+    pub opens-over : {a : ℕ} {ys : List ℕ} → left a ys ≡ open_of C key nonce ad (take (length ct) o) tag (take (length ct) o)
+        → left a (ys ++ drop (length ct) o) ≡ open_of C key nonce ad ct tag out
+    opens-over e =
+        judged_over (passes ct tag)
+        (e ∙ ap (λ (x : List ℕ). open_of C key nonce ad x tag x) (text_there ct out ok.in_room eo) ∙ open_done ct tag ct (in_place ok))
+        ∙ sym (open_done ct tag out ok)

@@ -7,53 +7,46 @@ use native.Mathlib.Nat.{suc-ne-zero}
 use lib.ListN.{length}
 use Rattle.machine.specs.Machine.{Core, Mode, enc, dec, start, after, out, close}
 use Rattle.machine.specs.Draft.{draft_absorb}
-use Rattle.machine.proofs.Cutting.{out-length}
 use Rattle.machine.proofs.Draft.{absorbs, encrypts, decrypts, decrypts_state}
 use Rattle.promises.specs.Cipher.{Cipher, Mac}
 use Rattle.promises.specs.Texts.{keyed, ciphertext, plaintext, seal_tag, open_tag, mac_state, mac_tag}
 
-module _ {S : Type 0} (C : Cipher S) where
+module _ {S : Type 0} (C : Cipher S) (key nonce ad : List ℕ) where
   open C use {machine, init, tag}
 
-  module _ (key nonce ad xs : List ℕ) {s₀ s : S} {c₀ : Core S}
-      (e₀ : s₀ ≡ init key nonce) (e₁ : s ≡ draft_absorb machine s₀ ad) (e₂ : c₀ ≡ start machine s) where
-    abbrev fresh : Core S
-    fresh = start machine (keyed C key nonce ad)
+  -- the machine once key, nonce and associated data are in
+  abbrev fresh : Core S
+  fresh = start machine (keyed C key nonce ad)
 
-    begun : c₀ ≡ fresh
-    unfolding keyed
-    begun = e₂ ∙ ap (start machine) (e₁ ∙ ap (λ (x : S). draft_absorb machine x ad) e₀)
+  pub begun : {s₀ s : S} {c : Core S} → s₀ ≡ init key nonce → s ≡ draft_absorb machine s₀ ad → c ≡ start machine s → c ≡ fresh
+  unfolding keyed
+  begun e₀ e₁ e₂ = e₂ ∙ ap (start machine) (e₁ ∙ ap (λ (x : S). draft_absorb machine x ad) e₀)
 
-    -- the machine went over the text, one way or the other
-    module _ (m : Mode) {ys : List ℕ} (eo : ys ≡ out machine m c₀ xs) where
-      text : ys ≡ out machine m fresh xs
-      text = eo ∙ ap (λ (c : Core S). out machine m c xs) begun
+  -- it goes over a text, and is closed
+  pub ends : (m : Mode) (xs : List ℕ) {c d : Core S} {e : S} → c ≡ fresh → d ≡ after machine m c xs → e ≡ close machine d
+      → e ≡ close machine (after machine m fresh xs)
+  ends m xs ec ed ee = ee ∙ ap (close machine) (ed ∙ ap (λ (x : Core S). after machine m x xs) ec)
 
-      tagged : {c : Core S} {e f : S} (n : ℕ) → c ≡ after machine m c₀ xs → e ≡ close machine c → close machine (after machine m fresh xs) ≡ f
-          → tag e (length ad) (length ys) n ≡ tag f (length ad) (length xs) n
-      tagged n ec ee ef =
-          λ i. tag ((ee ∙ ap (close machine) (ec ∙ ap (λ (c : Core S). after machine m c xs) begun) ∙ ef) i) (length ad)
-          ((ap length eo ∙ out-length machine m c₀ xs) i) n
+  pub gives : (m : Mode) (xs : List ℕ) {c : Core S} {ys : List ℕ} → c ≡ fresh → ys ≡ out machine m c xs → ys ≡ out machine m fresh xs
+  gives m xs ec ey = ey ∙ ap (λ (x : Core S). out machine m x xs) ec
 
-    module _ {ys : List ℕ} (eo : ys ≡ out machine enc c₀ xs) where
-      pub seals : ys ≡ ciphertext C key nonce ad xs
-      unfolding ciphertext
-      seals = text enc eo ∙ encrypts machine (keyed C key nonce ad) xs
+  module _ (xs : List ℕ) where
+    pub seals : {ys : List ℕ} → ys ≡ out machine enc fresh xs → ys ≡ ciphertext C key nonce ad xs
+    unfolding ciphertext
+    seals ey = ey ∙ encrypts machine (keyed C key nonce ad) xs
 
-      pub seals-tag : {c : Core S} {e : S} {t : List ℕ} (n : ℕ) → c ≡ after machine enc c₀ xs → e ≡ close machine c
-          → t ≡ tag e (length ad) (length ys) n → t ≡ seal_tag C key nonce ad xs n
-      unfolding seal_tag
-      seals-tag n ec ee et = et ∙ tagged enc eo n ec ee (absorbs machine (keyed C key nonce ad) xs)
+    pub seals-tag : {e : S} {t : List ℕ} (n : ℕ) → e ≡ close machine (after machine enc fresh xs) → t ≡ tag e (length ad) (length xs) n
+        → t ≡ seal_tag C key nonce ad xs n
+    unfolding seal_tag
+    seals-tag n ee et = et ∙ ap (λ (z : S). tag z (length ad) (length xs) n) (ee ∙ absorbs machine (keyed C key nonce ad) xs)
 
-    module _ {ys : List ℕ} (eo : ys ≡ out machine dec c₀ xs) where
-      pub opens : ys ≡ plaintext C key nonce ad xs
-      unfolding plaintext
-      opens = text dec eo ∙ decrypts machine (keyed C key nonce ad) xs
+    pub opens : {ys : List ℕ} → ys ≡ out machine dec fresh xs → ys ≡ plaintext C key nonce ad xs
+    unfolding plaintext
+    opens ey = ey ∙ decrypts machine (keyed C key nonce ad) xs
 
-      pub opens-tag : {c : Core S} {e : S} (n : ℕ) → c ≡ after machine dec c₀ xs → e ≡ close machine c
-          → tag e (length ad) (length ys) n ≡ open_tag C key nonce ad xs n
-      unfolding open_tag
-      opens-tag n ec ee = tagged dec eo n ec ee (decrypts_state machine (keyed C key nonce ad) xs)
+    pub opens-tag : {e : S} (n : ℕ) → e ≡ close machine (after machine dec fresh xs) → tag e (length ad) (length xs) n ≡ open_tag C key nonce ad xs n
+    unfolding open_tag
+    opens-tag n ee = ap (λ (z : S). tag z (length ad) (length xs) n) (ee ∙ decrypts_state machine (keyed C key nonce ad) xs)
 
 -- ---- the MAC: of data, and of none
 

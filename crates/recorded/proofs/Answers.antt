@@ -2,11 +2,16 @@
 -- Assumes nothing.
 use Prim.Native.Nat.{ℕ}
 use mathlib.Core.Path.{◌≡◌, refl, sym, ap, subst, ◌∙◌}
+use mathlib.Core.Bool.{Bool, true, false}
 use mathlib.Core.List.{List}
 use native.Mathlib.Nat.{le_of_eq}
 use lib.ListN.{length, replicate, length-replicate}
-use Rattle.lent.specs.Lent.{over}
-use Rattle.lent.proofs.Over.{over-same}
+use Rattle.std.specs.Prelude.{Option, Some, OnSome, Result, Ok, Err, ⊤}
+use Rattle.std.specs.Bool.{then_some}
+use Rattle.std.specs.Result.{result_ok}
+use Rattle.std.proofs.lemmas.Option.{none-some}
+use Rattle.answers.specs.declared.Refusal.{Refusal}
+use Rattle.answers.specs.Refusals.{answer_of}
 use Rattle.machine.specs.Bytes.{zeros}
 use Rattle.machine.specs.Kinds.{keystream, stream_xor}
 use Rattle.machine.proofs.Stream.{stream_xor-length, stream_xor-zeros, stream_xor_twice}
@@ -24,6 +29,16 @@ use Rattle.aegis128l.specs.Cipher.{aegis128l, mac_of_aegis128l}
 use Rattle.oneshot.specs.Leaves.{seal_left, left}
 use Rattle.recorded.specs.Records.{Sealed, Opened, Refused, Maced, Streamed}
 
+-- a call that is no error answers 0
+pub done : {A : Type 0} (r : Result A Refusal) {x : A} → Some x ≡ result_ok r → answer_of r ≡ 0
+done (Ok x) e = refl
+done (Err e) h = absurd (none-some _ (sym h))
+
+-- what a question that is answered with yes says
+pub said : {P : Type 0} (yes : Bool) {o : Option ⊤} → o ≡ then_some yes tt → (yes ≡ true → P) → OnSome o P
+said {P = P} true e h = subst (λ (o : Option ⊤). OnSome o P) (sym e) (h refl)
+said {P = P} false e h = subst (λ (o : Option ⊤). OnSome o P) (sym e) tt
+
 module _ (key nonce ad : List ℕ) where
   -- ---- sealing
 
@@ -39,11 +54,11 @@ module _ (key nonce ad : List ℕ) where
         tagged = sym tt' ∙ ap (λ (r : SealLeft). r.tag) done ∙ ap (seal_tag aegis128l key nonce ad msg) nm;
       }
 
-  pub seal_in_place_says : (msg buf made : List ℕ) {ct tag b out t : List ℕ} {a : ℕ} → b ≡ over msg buf
-      → seal_left a out t ≡ seal_in_place_of aegis128l key nonce ad b made → a ≡ 0
-      → length buf ≡ length msg → length made ≡ length tag → out ≡ ct → t ≡ tag → Sealed key nonce ad msg ct tag
-  seal_in_place_says msg buf made {ct = ct} {tag = tag} {b = b} p e z nb nm oc tt' =
-      subst (λ (m : List ℕ). Sealed key nonce ad m ct tag) (p ∙ over-same msg buf (sym nb)) (seal_says b b made e z refl nm oc tt')
+  pub seal_in_place_says : (msg made : List ℕ) {ct tag buf out t : List ℕ} {a : ℕ} → buf ≡ msg
+      → seal_left a out t ≡ seal_in_place_of aegis128l key nonce ad buf made → a ≡ 0
+      → length made ≡ length tag → out ≡ ct → t ≡ tag → Sealed key nonce ad msg ct tag
+  seal_in_place_says msg made {ct = ct} {tag = tag} {buf = buf} is e z nm oc tt' =
+      subst (λ (m : List ℕ). Sealed key nonce ad m ct tag) is (seal_says buf buf made e z refl nm oc tt')
 
   -- ---- opening
 
@@ -67,16 +82,13 @@ module _ (key nonce ad : List ℕ) where
         record { differs = k.1; erased = sym ob ∙ ap (λ (r : Left). r.out) done ∙ whole }
 
   -- in place: the buffer holds the ciphertext
-  module _ (ct tag buf : List ℕ) {b out bytes : List ℕ} {a : ℕ} (p : b ≡ over ct buf) (e : left a out ≡ open_in_place_of aegis128l key nonce ad b tag)
-      (nb : length buf ≡ length ct) (ob : out ≡ bytes) where
-    is_ct : b ≡ ct
-    is_ct = p ∙ over-same ct buf (sym nb)
-
+  module _ (ct tag : List ℕ) {buf out bytes : List ℕ} {a : ℕ} (is : buf ≡ ct) (e : left a out ≡ open_in_place_of aegis128l key nonce ad buf tag)
+      (ob : out ≡ bytes) where
     pub open_in_place_says : a ≡ 0 → Opened key nonce ad bytes ct tag
-    open_in_place_says z = subst (λ (x : List ℕ). Opened key nonce ad bytes x tag) is_ct (open_says b tag b e refl ob z)
+    open_in_place_says z = subst (λ (x : List ℕ). Opened key nonce ad bytes x tag) is (open_says buf tag buf e refl ob z)
 
     pub refuse_in_place_says : a ≡ 7 → Refused key nonce ad bytes ct tag
-    refuse_in_place_says z = subst (λ (x : List ℕ). Refused key nonce ad bytes x tag) is_ct (refuse_says b tag b e refl ob z)
+    refuse_in_place_says z = subst (λ (x : List ℕ). Refused key nonce ad bytes x tag) is (refuse_says buf tag buf e refl ob z)
 
 module _ (key nonce : List ℕ) where
   -- ---- the MAC
@@ -98,18 +110,17 @@ module _ (key nonce : List ℕ) where
       record { text = sym ok ∙ ap (λ (r : Left). r.out) done ∙ ap (keystream machine (init key nonce)) nb }
 
   -- what xors to zeros is the keystream
-  pub cancel_says : (ks buf : List ℕ) {b out : List ℕ} {a : ℕ} → b ≡ over ks buf → left a out ≡ stream_xor_of aegis128l key nonce b → a ≡ 0
-      → length buf ≡ length ks → out ≡ zeros (length out) → Streamed key nonce ks
-  cancel_says ks buf {b = b} {out = out} p e z nb oz =
+  pub cancel_says : (ks : List ℕ) {buf out : List ℕ} {a : ℕ} → buf ≡ ks → left a out ≡ stream_xor_of aegis128l key nonce buf → a ≡ 0
+      → out ≡ zeros (length out) → Streamed key nonce ks
+  cancel_says ks {buf = buf} {out = out} is e z oz =
       let s = init key nonce in
       let zero = sym (ap (λ (r : Left). r.answer) e) ∙ z in
-      let done = ap (λ (r : Left). r.out) (e ∙ stream_xor_done aegis128l key nonce b (stream_xor_zero aegis128l key nonce b zero)) in
-      let is-ks : b ≡ ks = p ∙ over-same ks buf (sym nb) in
-      let n : length out ≡ length ks = ap length done ∙ stream_xor-length machine s b ∙ ap length is-ks in
+      let done = ap (λ (r : Left). r.out) (e ∙ stream_xor_done aegis128l key nonce buf (stream_xor_zero aegis128l key nonce buf zero)) in
+      let n : length out ≡ length ks = ap length done ∙ stream_xor-length machine s buf ∙ ap length is in
       record {
         text =
-            sym is-ks
-            ∙ sym (stream_xor_twice machine s b)
+            sym is
+            ∙ sym (stream_xor_twice machine s buf)
             ∙ ap (stream_xor machine s) (sym done ∙ oz)
             ∙ stream_xor-zeros machine s (length out)
             ∙ ap (keystream machine s) n;

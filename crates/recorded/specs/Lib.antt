@@ -1,3 +1,4 @@
--- The format of the recorded list, and what its records say by the promises' definitions.
+-- The format of the recorded list, what is taken out of it, and what its records say by the promises' definitions.
 pub mod List
+pub mod Entries
 pub mod Records

@@ -2,8 +2,8 @@
 -- (2), message length (2), AD, message, ciphertext, tag. A MAC has no ciphertext; a stream has no message, and its keystream stands in the
 -- ciphertext's place.
 -- Assumes nothing.
-use Rattle.std.specs.Prelude.{ℕ, ◌+◌, ◌*◌, ◌-◌, ◌≤◌, ◌≡◌, cond, List, eqb, take, drop, get_or}
-use Rattle.recorded.specs.declared.list.Layout.{Layout}
+use Rattle.std.specs.Prelude.{ℕ, ◌+◌, ◌*◌, cond, List, eqb, get_or}
+use Rattle.std.specs.List.{between}
 
 abbrev pub number_at : ℕ → List ℕ → ℕ
 number_at i l = get_or l i 0 + 256 * get_or l (i + 1) 0
@@ -28,43 +28,20 @@ tag_place l = ct_place l + unless (kind_of l) 3 (number_at 36 l)
 abbrev pub end_place : List ℕ → ℕ
 end_place l = tag_place l + get_or l 1 0
 
--- a layout is the one that a list's start has
-pub record LaidOut (l : List ℕ) (r : Layout) : Type 0 where
-  pub msg_is : r.msg ≡ msg_place l
-  pub ct_is : r.ct ≡ ct_place l
-  pub tag_is : r.tag ≡ tag_place l
-  pub end_is : r.end ≡ end_place l
-
--- a layout of places in their order within n bytes, with no part longer than records have
-pub record Fits (r : Layout) (n : ℕ) : Type 0 where
-  pub head : 38 ≤ r.msg
-  pub msg_first : r.msg ≤ r.ct
-  pub then_ct : r.ct ≤ r.tag
-  pub then_tag : r.tag ≤ r.end
-  pub inside : r.end ≤ n
-  pub msg_short : r.ct ≤ r.msg + 512
-  pub ct_short : r.tag ≤ r.ct + 512
-  pub tag_short : r.end ≤ r.tag + 32
-
--- the bytes from place a up to place e
-abbrev between : ℕ → ℕ → List ℕ → List ℕ
-between a e l = take (e - a) (drop a l)
-
 abbrev pub key_in : List ℕ → List ℕ
 key_in l = between 2 18 l
 
 abbrev pub nonce_in : List ℕ → List ℕ
 nonce_in l = between 18 34 l
 
-module _ (r : Layout) where
-  abbrev pub ad_in : List ℕ → List ℕ
-  ad_in l = between 38 r.msg l
+abbrev pub ad_in : List ℕ → List ℕ
+ad_in l = between 38 (msg_place l) l
 
-  abbrev pub msg_in : List ℕ → List ℕ
-  msg_in l = between r.msg r.ct l
+abbrev pub msg_in : List ℕ → List ℕ
+msg_in l = between (msg_place l) (ct_place l) l
 
-  abbrev pub ct_in : List ℕ → List ℕ
-  ct_in l = between r.ct r.tag l
+abbrev pub ct_in : List ℕ → List ℕ
+ct_in l = between (ct_place l) (tag_place l) l
 
-  abbrev pub tag_in : List ℕ → List ℕ
-  tag_in l = between r.tag r.end l
+abbrev pub tag_in : List ℕ → List ℕ
+tag_in l = between (tag_place l) (end_place l) l

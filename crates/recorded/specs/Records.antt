@@ -6,6 +6,7 @@ use Rattle.machine.specs.Kinds as kinds
 use Rattle.promises.specs.Texts.{ciphertext, seal_tag, plaintext, open_tag, mac_tag}
 use Rattle.aegis128l.specs.Aegis128L.{machine, init}
 use Rattle.aegis128l.specs.Cipher.{aegis128l, mac_of_aegis128l}
+use Rattle.recorded.specs.declared.list.Record.{Record}
 
 -- the message seals to the ciphertext and the tag
 pub record Sealed (key nonce ad msg ct tag : List ℕ) : Type 0 where
@@ -35,3 +36,24 @@ pub record Streamed (key nonce stream : List ℕ) : Type 0 where
 -- a tag with one bit changed
 abbrev pub flipped : List ℕ → List ℕ
 flipped t = set t 0 (bit_xor (get_or t 0 0) 1)
+
+-- ---- of a record that was taken out of a list
+
+module _ (r : Record) where
+  abbrev pub IsSealed : Type 0
+  IsSealed = Sealed r.key.now r.nonce.now r.ad.now r.msg.now r.ct.now r.tag.now
+
+  abbrev pub IsOpened : Type 0
+  IsOpened = Opened r.key.now r.nonce.now r.ad.now r.msg.now r.ct.now r.tag.now
+
+  abbrev pub IsAccepted : Type 0
+  IsAccepted = Accepted r.key.now r.nonce.now r.ad.now r.ct.now r.tag.now
+
+  abbrev pub IsRefused : Type 0
+  IsRefused = Refused r.key.now r.nonce.now r.ad.now r.msg.now r.ct.now r.tag.now
+
+  abbrev pub IsMaced : Type 0
+  IsMaced = Maced r.key.now r.nonce.now r.msg.now r.tag.now
+
+  abbrev pub IsStreamed : Type 0
+  IsStreamed = Streamed r.key.now r.nonce.now r.ct.now

@@ -1,33 +1,39 @@
 // What is asked of bytes, and done to them, in several places.
-ghost use Rattle.std.specs.Prelude.{◌≡◌, true, length};
+ghost use Rattle.std.specs.Prelude.{◌≡◌, true, length, OnSome};
 ghost use Rattle.machine.specs.Bytes.{zeros};
 ghost use Rattle.recorded.specs.Records.{flipped};
 
 // Whether every byte is 0.
-pub fn is_zero(b: &[u8]) -> bool
-    ensures { result ≡ true → b.now ≡ zeros (length b.now) }
+pub fn is_zero(bytes: &[u8]) -> bool
+    ensures { result ≡ true → bytes.now ≡ zeros (length bytes.now) }
 {
-    let mut i = 0;
-    while i < b.len() {
-        if b[i] != 0 {
-            return false;
-        }
-        i += 1;
-    }
-    true
+    bytes.iter().all(|byte| *byte == 0)
 }
 
-// A tag with one bit changed; false where there is no room, or no tag.
-pub fn damage(tag: &[u8], damaged: &mut [u8]) -> bool
-    ensures { result ≡ true → damaged.new ≡ flipped tag.now }
+// Bytes that were made are those that are recorded; none where they differ.
+pub fn same(made: &[u8], recorded: &[u8]) -> Option<()>
+    ensures { OnSome result (made.now ≡ recorded.now) }
 {
-    if damaged.len() != tag.len() {
-        return false;
+    (made == recorded).then_some(())
+}
+
+// Lays bytes over a buffer of their length; none where it has another.
+pub fn lay(bytes: &[u8], buf: &mut [u8]) -> Option<()>
+    ensures { OnSome result (buf.new ≡ bytes.now) }
+{
+    if buf.len() != bytes.len() {
+        return None;
     }
-    if tag.len() == 0 {
-        return false;
-    }
-    lent::put(tag, damaged);
-    damaged[0] = tag[0] ^ 1;
-    true
+    buf.copy_from_slice(bytes);
+    Some(())
+}
+
+// Makes a tag with one bit changed; none where there is no room, or no tag.
+pub fn damage(tag: &[u8], damaged: &mut [u8]) -> Option<()>
+    ensures { OnSome result (damaged.new ≡ flipped tag.now) }
+{
+    lay(tag, damaged)?;
+    let first = damaged.first_mut()?;
+    *first ^= 1;
+    Some(())
 }

@@ -1,104 +1,130 @@
 // The recorded list, as compare/ writes it: numbers are little-endian, and a record is kind (1 byte), tag size (1), key (16), nonce (16),
 // AD length (2), message length (2), AD, message, ciphertext, tag. A MAC has no ciphertext; a stream has no message and no tag, and its
 // keystream stands in the ciphertext's place. A separator or an end is its kind alone.
-ghost use Rattle.std.specs.Prelude.{◌≡◌, true, ◌≤◌, ◌<◌, get_or};
+ghost use Rattle.std.specs.Prelude.{◌≡◌, ◌≤◌, ◌<◌, length, get_or, IfSome};
 ghost use Rattle.recorded.specs.List as spec;
 
-pub const END: u8 = 0;
-
-pub const SEAL: u8 = 1;
-
-pub const REFUSED: u8 = 2;
-
-pub const MAC: u8 = 3;
-
-pub const STREAM: u8 = 4;
-
-pub const SEPARATOR: u8 = 5;
-
 // What stands before the AD.
-pub const HEAD: usize = 38;
+const HEAD: usize = 38;
 
 // The most that a record's message has, and its tag.
 pub const LONGEST: usize = 512;
 
 pub const LONGEST_TAG: usize = 32;
 
-// Where the parts of a record start, and where it ends.
+// What a record was made by: sealing, an opening that refused the tag, a MAC, or a stream.
+#[derive(Clone, Copy, PartialEq, Eq)]
+pub enum Kind {
+    Seal,
+    Refused,
+    Mac,
+    Stream,
+}
+
+// The parts of a record, as they stand in the list.
 #[derive(Clone, Copy)]
-pub struct Layout {
-    pub msg: usize,
-    pub ct: usize,
-    pub tag: usize,
-    pub end: usize,
+pub struct Record<'a> {
+    pub key: &'a [u8],
+    pub nonce: &'a [u8],
+    pub ad: &'a [u8],
+    pub msg: &'a [u8],
+    pub ct: &'a [u8],
+    pub tag: &'a [u8],
+    pub ghost msg_short: { length msg.now ≤ 512 },
+    pub ghost ct_short: { length ct.now ≤ 512 },
+    pub ghost tag_short: { length tag.now ≤ 32 },
+}
+
+// What stands behind the last record of a section: the published vectors end with a separator, the recorded answers with the end.
+#[derive(Clone, Copy, PartialEq, Eq)]
+pub enum Mark {
+    End,
+    Separator,
+}
+
+// What a list begins with: a mark, or a record of a kind, and where the next one starts.
+#[derive(Clone, Copy)]
+pub enum Entry<'a> {
+    Mark(Mark),
+    Record(Kind, Record<'a>, usize),
 }
 
 // The byte at place i, or 0 past the end.
-pub fn byte_at(list: &[u8], i: usize) -> u8
+fn byte_at(list: &[u8], i: usize) -> u8
     ensures { result ≡ get_or list.now i 0 }
 {
-    if i < list.len() {
-        return list[i];
-    }
-    0
+    list.get(i).copied().unwrap_or(0)
 }
 
 fn number_at(list: &[u8], i: usize) -> usize
     requires { i < 38 }
     ensures { (result ≡ spec.number_at i list.now) × (result < 65536) }
 {
-    let low = byte_at(list, i);
-    let high = byte_at(list, i + 1);
-    low as usize + 256 * high as usize
+    u16::from_le_bytes([byte_at(list, i), byte_at(list, i + 1)]) as usize
 }
 
-// A part of n bytes, which records of one kind leave out.
-fn unless(kind: u8, without: u8, n: usize) -> usize
-    ensures { (result ≡ spec.unless kind without n) × (result ≤ n) }
-{
-    if kind == without {
-        return 0;
-    }
-    n
-}
+impl Kind {
+    ghost use Rattle.recorded.specs.Entries.{code};
 
-// Of the record at the start of a list.
-pub fn laid_out(list: &[u8]) -> Layout
-    ensures { spec.LaidOut list.now result }
-{
-    let kind = byte_at(list, 0);
-    let ad = number_at(list, 34);
-    let n = number_at(list, 36);
-    let before = unless(kind, STREAM, n);
-    let after = unless(kind, MAC, n);
-    let tag_size = byte_at(list, 1);
-    let msg = HEAD + ad;
-    let ct = msg + before;
-    let tag = ct + after;
-    Layout {
-        msg: msg,
-        ct: ct,
-        tag: tag,
-        end: tag + tag_size as usize,
+    // How long message and ciphertext are, where the list gives n.
+    fn lengths(self, n: usize) -> (usize, usize)
+        ensures { (result.0 ≡ spec.unless (code self) 4 n) × (result.1 ≡ spec.unless (code self) 3 n) }
+    {
+        match self {
+            Kind::Stream => (0, n),
+            Kind::Mac => (n, 0),
+            Kind::Seal | Kind::Refused => (n, n),
+        }
     }
 }
 
-// Whether a record laid out so stands whole in n bytes, with no part longer than records have.
-pub fn fits(l: Layout, n: usize) -> bool
-    requires { (38 ≤ l.msg) × ((l.msg ≤ l.ct) × ((l.ct ≤ l.tag) × (l.tag ≤ l.end))) }
-    ensures { result ≡ true → spec.Fits l n }
-{
-    if l.end > n {
-        return false;
+impl<'a> Record<'a> {
+    ghost use Rattle.recorded.specs.Entries.{Taken, code};
+
+    // The record of a kind at the start of a list, and where the next one starts; none where it does not stand whole there, or has a part
+    // longer than records have.
+    fn first(list: &'a [u8], kind: Kind) -> Option<(Record<'a>, usize)>
+        requires { spec.kind_of list.now ≡ code kind }
+        ensures { IfSome result (λ p. Taken list.now kind p.0 p.1) }
+    {
+        let (msg_len, ct_len) = kind.lengths(number_at(list, 36));
+        let tag_len = byte_at(list, 1) as usize;
+        if msg_len > LONGEST || ct_len > LONGEST || tag_len > LONGEST_TAG {
+            return None;
+        }
+        let msg = HEAD + number_at(list, 34);
+        let ct = msg + msg_len;
+        let tag = ct + ct_len;
+        let end = tag + tag_len;
+        let record = Record {
+            key: list.get(2..18)?,
+            nonce: list.get(18..34)?,
+            ad: list.get(HEAD..msg)?,
+            msg: list.get(msg..ct)?,
+            ct: list.get(ct..tag)?,
+            tag: list.get(tag..end)?,
+        };
+        Some((record, end))
     }
-    if l.ct - l.msg > LONGEST {
-        return false;
+}
+
+impl<'a> Entry<'a> {
+    ghost use Rattle.recorded.specs.Entries.{Begins};
+
+    // What a list begins with, if it stands whole there.
+    pub fn first(list: &'a [u8]) -> Option<Entry<'a>>
+        ensures { IfSome result (λ e. Begins list.now e) }
+    {
+        let kind = match list.first()? {
+            0 => return Some(Entry::Mark(Mark::End)),
+            1 => Kind::Seal,
+            2 => Kind::Refused,
+            3 => Kind::Mac,
+            4 => Kind::Stream,
+            5 => return Some(Entry::Mark(Mark::Separator)),
+            _ => return None,
+        };
+        let (record, end) = Record::first(list, kind)?;
+        Some(Entry::Record(kind, record, end))
     }
-    if l.tag - l.ct > LONGEST {
-        return false;
-    }
-    if l.end - l.tag > LONGEST_TAG {
-        return false;
-    }
-    true
 }

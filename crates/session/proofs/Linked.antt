@@ -1,64 +1,61 @@
--- A world of crates that has this crate's table of functions, and those of the crates below, has the code of each function that is called from above, and of all that it
--- calls. The table is the one that Rattle makes of src/.
+-- A world of crates that has this crate's table of functions, and the code of each function that they call, has the code of each function here that is
+-- called from above. The table, and what is called, are as Rattle makes them of src/.
 -- Assumes nothing.
 use Rattle.std.proofs.Common.{true}
 use prog.Linked.{Tree, World, Holds, in_world}
 use prog.LinkedThreads.{HasT}
-use Rattle.aes.proofs.Linked as aes
-use Rattle.answers.proofs.Linked as answers
-use Rattle.lent.proofs.Linked as lent
-use Rattle.aegis128l.proofs.Linked as aegis128l
-use Rattle.aegis128l_core.proofs.Linked as aegis128l_core
 use Rattle.session.proofs.TheLink as link
-use Rattle.session.proofs.core_of.Symbol as core_of-symbol
-use Rattle.session.proofs.ended.Symbol as ended-symbol
-use Rattle.session.proofs.live.Symbol as live-symbol
-use Rattle.session.proofs.over_with.Symbol as over_with-symbol
+use Rattle.session.proofs.Session.core.Symbol as Session_core-symbol
+use Rattle.session.proofs.Session.ended.Symbol as Session_ended-symbol
+use Rattle.session.proofs.Session.is_for.Symbol as Session_is_for-symbol
+use Rattle.session.proofs.Session.is_live.Symbol as Session_is_live-symbol
+use Rattle.session.proofs.Session.is_well_formed.Symbol as Session_is_well_formed-symbol
+use Rattle.session.proofs.Session.refused.Symbol as Session_refused-symbol
+use Rattle.session.proofs.Session.with_core.Symbol as Session_with_core-symbol
+use Rattle.session.proofs.Session.with_length.Symbol as Session_with_length-symbol
 use Rattle.session.proofs.starts.mac_start.Symbol as starts_mac_start-symbol
 use Rattle.session.proofs.starts.open_start.Symbol as starts_open_start-symbol
 use Rattle.session.proofs.starts.seal_start.Symbol as starts_seal_start-symbol
-use Rattle.session.proofs.well_formed.Symbol as well_formed-symbol
 
 pub table : Tree
 table = link.table
 
-module _ (W : World) (aes-held : Holds W "aes" aes.table) (answers-held : Holds W "answers" answers.table) (lent-held : Holds W "lent" lent.table) (aegis128l-held : Holds W "aegis128l" aegis128l.table) (aegis128l_core-held : Holds W "aegis128l_core" aegis128l_core.table) (held : Holds W "session" table) where
-  below : link.Below W
-  below = (
-    aegis128l.state_State_new W aes-held lent-held aegis128l-held,
-    (
-      aegis128l_core.absorb_ad W aes-held lent-held aegis128l-held aegis128l_core-held,
-      (
-        aes.sbox W aes-held,
-        (
-          answers.once_mac_start W answers-held,
-          (
-            answers.once_start W answers-held,
-            (
-              answers.once_tag_size W answers-held,
-              tt,
-            ),
-          ),
-        ),
-      ),
-    ),
-  )
+-- the code of the functions of other crates that are called here, as Rattle lists them
+abbrev pub Below : World → Type 0
+Below = link.Below
 
-  pub core_of : HasT (in_world W) true core_of-symbol.code
+module _ (W : World) (held : Holds W "session" table) (below : Below W) where
+  pub Session_core : HasT (in_world W) true Session_core-symbol.code
   unfolding table
-  core_of = link.linked-session::core_of W held below
+  Session_core = link.linked-session::Session::core W held below
 
-  pub ended : HasT (in_world W) true ended-symbol.code
+  pub Session_ended : HasT (in_world W) true Session_ended-symbol.code
   unfolding table
-  ended = link.linked-session::ended W held below
+  Session_ended = link.linked-session::Session::ended W held below
 
-  pub live : HasT (in_world W) true live-symbol.code
+  pub Session_is_for : HasT (in_world W) true Session_is_for-symbol.code
   unfolding table
-  live = link.linked-session::live W held below
+  Session_is_for = link.linked-session::Session::is_for W held below
 
-  pub over_with : HasT (in_world W) true over_with-symbol.code
+  pub Session_is_live : HasT (in_world W) true Session_is_live-symbol.code
   unfolding table
-  over_with = link.linked-session::over_with W held below
+  Session_is_live = link.linked-session::Session::is_live W held below
+
+  pub Session_is_well_formed : HasT (in_world W) true Session_is_well_formed-symbol.code
+  unfolding table
+  Session_is_well_formed = link.linked-session::Session::is_well_formed W held below
+
+  pub Session_refused : HasT (in_world W) true Session_refused-symbol.code
+  unfolding table
+  Session_refused = link.linked-session::Session::refused W held below
+
+  pub Session_with_core : HasT (in_world W) true Session_with_core-symbol.code
+  unfolding table
+  Session_with_core = link.linked-session::Session::with_core W held below
+
+  pub Session_with_length : HasT (in_world W) true Session_with_length-symbol.code
+  unfolding table
+  Session_with_length = link.linked-session::Session::with_length W held below
 
   pub starts_mac_start : HasT (in_world W) true starts_mac_start-symbol.code
   unfolding table
@@ -71,7 +68,3 @@ module _ (W : World) (aes-held : Holds W "aes" aes.table) (answers-held : Holds 
   pub starts_seal_start : HasT (in_world W) true starts_seal_start-symbol.code
   unfolding table
   starts_seal_start = link.linked-session::starts::seal_start W held below
-
-  pub well_formed : HasT (in_world W) true well_formed-symbol.code
-  unfolding table
-  well_formed = link.linked-session::well_formed W held below

@@ -1,28 +1,16 @@
 -- The struct of the code says no more than the promises do: what the promises see of two sessions is equal only where the structs are.
 -- An array of the code has its length; the list for it is asked to.
 -- Assumes nothing.
-use Prim.Native.Nat.{ℕ}
 use native.Mathlib.Omega.{arith}
 use mathlib.Core.Path.{◌≡◌, refl, sym, ap, ◌∙◌}
 use mathlib.Core.List.{List, [], ◌∷◌}
 use lib.ListN.{length}
-use Rattle.promises.specs.SessionCalls as calls
 use Rattle.promises.specs.Session as promise
 use Rattle.aes.specs.declared.AesBlock.{AesBlock}
 use Rattle.aegis128l.specs.Aegis128L.{Blocks}
 use Rattle.aegis128l.specs.View.{blocks_of}
 use Rattle.session.specs.declared.Session.{Session}
-use Rattle.session.specs.declared.Finish.{Finish}
 use Rattle.session.specs.View.{session_of}
-
--- an opening finish, as the promises have it
-abbrev pub opened_of : Finish → List ℕ → calls.Opened Blocks
-opened_of r out = record {
-  answer = r.opened.answer;
-  count = r.opened.count;
-  session = session_of r.session;
-  out = out;
-}
 
 -- ---- eight blocks from their bytes, and back
 

@@ -2,24 +2,29 @@
 // `session_pieces` and `session_finishes` what goes on with it. Crate `thin` has the form in which the caller lends it.
 #![tactic(auto)]
 
-ghost use Rattle.std.specs.Prelude.{◌≡◌, true};
+ghost use Rattle.std.specs.Prelude.{◌≡◌, true, eqb, Err};
 ghost use Rattle.promises.specs.Session as promise;
 ghost use Rattle.aegis128l.specs.Cipher.{aegis128l};
 ghost use Rattle.aegis128l_core.specs.View.{core_of};
-ghost use Rattle.session.specs.View.{session_of, handed_of};
+ghost use Rattle.session.specs.View.{session_of, mark_of, with_core, with_total};
 
 use aegis128l::state::State;
 use aegis128l_core::Core;
 use aes::AesBlock;
+use answers::Refusal;
+use answers::length::MessageLength;
 
 pub mod starts;
 
-pub const SEALING: usize = 0;
+// What a session is for, with its mark.
+#[derive(Clone, Copy, PartialEq, Eq)]
+pub enum Kind {
+    Sealing = 0,
+    Opening = 1,
+    Macing = 2,
+}
 
-pub const OPENING: usize = 1;
-
-pub const MACING: usize = 2;
-
+// The mark of a session that is over.
 pub const OVER: usize = 3;
 
 #[repr(C)]
@@ -36,15 +41,14 @@ pub struct Session {
     pub written: usize,
 }
 
-// What a call hands back: its answer, and the session to go on with.
-#[repr(C)]
-#[derive(Clone, Copy)]
-pub struct Piece {
-    pub answer: u8,
+// What a call hands back: its outcome, and the session to go on with.
+#[derive(Drop)]
+pub struct Handed<T> {
+    pub outcome: Result<T, Refusal>,
     pub session: Session,
 }
 
-// What the finish of an opening tells: its answer, and how many bytes it releases.
+// What C is told of the finish of an opening: the answer, and how many bytes it releases.
 #[repr(C)]
 #[derive(Clone, Copy)]
 pub struct Opened {
@@ -52,100 +56,110 @@ pub struct Opened {
     pub count: usize,
 }
 
-#[repr(C)]
-#[derive(Clone, Copy)]
-pub struct Finish {
-    pub opened: Opened,
-    pub session: Session,
-}
-
-// Zeros, and the mark that it is over.
-pub fn ended() -> Session
-    ensures { session_of result ≡ promise.ended aegis128l }
-{
-    let b = AesBlock { bytes: [0u8; 16] };
-    Session {
-        blocks: [b; 8],
-        buf: [0u8; 32],
-        fill: 0,
-        ad_len: 0,
-        msg_len: 0,
-        tag_size: 0,
-        mark: OVER,
-        room: 0,
-        written: 0,
-    }
-}
-
-// What is handed back where a session ends, or does not start.
-pub fn over_with(a: u8) -> Piece
-    ensures { handed_of result ≡ record { answer = a; session = promise.ended aegis128l } }
-{
-    let s = ended();
-    Piece {
-        answer: a,
-        session: s,
-    }
-}
-
-fn opening_fits(s: Session) -> bool
-    ensures { result ≡ promise.if_opening (session_of s) (promise.opening_fits (session_of s)) true }
-{
-    if s.mark == OPENING {
-        if s.written as u64 == s.msg_len {
-            s.written <= s.room
-        } else {
-            false
+impl Session {
+    // Zeros, and the mark that it is over.
+    #[tactic(auto, unfolding(promises::specs::Session::ended))]
+    pub fn ended() -> Session
+        ensures { session_of result ≡ promise.ended aegis128l }
+    {
+        Session {
+            blocks: [AesBlock { bytes: [0; 16] }; 8],
+            buf: [0; 32],
+            fill: 0,
+            ad_len: 0,
+            msg_len: 0,
+            tag_size: 0,
+            mark: OVER,
+            room: 0,
+            written: 0,
         }
-    } else {
-        true
     }
-}
 
-pub fn well_formed(s: Session) -> bool
-    ensures { result ≡ promise.well_formed 32 (session_of s) }
-{
-    if answers::once::tag_size(s.tag_size) {
-        if s.ad_len <= answers::LIMIT {
-            if s.msg_len <= answers::LIMIT {
-                let rest = s.msg_len % 32;
-                if s.fill == rest as usize {
-                    opening_fits(s)
-                } else {
-                    false
-                }
-            } else {
-                false
-            }
-        } else {
-            false
+    // Whether it has the mark of this kind.
+    pub fn is_for(self, kind: Kind) -> bool
+        ensures { result ≡ eqb (session_of self).mark (mark_of kind) }
+    {
+        self.mark == kind as usize
+    }
+
+    // An opening has written what it was given, and has the room for it.
+    #[tactic(auto, unfolding(promises::specs::Session::opening_fits))]
+    fn opening_fits(self) -> bool
+        ensures { result
+            ≡ promise.if_opening (session_of self) (promise.opening_fits (session_of self)) true }
+    {
+        !self.is_for(Kind::Opening)
+            || self.written as u64 == self.msg_len && self.written <= self.room
+    }
+
+    #[tactic(auto, unfolding(promises::specs::Session::well_formed))]
+    pub fn is_well_formed(self) -> bool
+        ensures { result ≡ promise.well_formed 32 (session_of self) }
+    {
+        answers::once::tag_size(self.tag_size)
+            && self.ad_len <= answers::LIMIT
+            && self.msg_len <= answers::LIMIT
+            && self.fill as u64 == self.msg_len % 32
+            && self.opening_fits()
+    }
+
+    // Well formed, and of this kind.
+    #[tactic(auto, unfolding(promises::specs::Session::live))]
+    pub fn is_live(self, kind: Kind) -> bool
+        ensures { result ≡ promise.live 32 (mark_of kind) (session_of self) }
+    {
+        self.is_for(kind) && self.is_well_formed()
+    }
+
+    // What a refused call hands back: the session as it was.
+    pub fn refused<T>(self, refusal: Refusal) -> Handed<T>
+        ensures outcome { result.outcome ≡ Err refusal }
+        ensures session { result.session ≡ self }
+    {
+        Handed {
+            outcome: Err(refusal),
+            session: self,
         }
-    } else {
-        false
     }
-}
 
-// Well formed, and of this kind.
-pub fn live(s: Session, kind: usize) -> bool
-    ensures { result ≡ promise.live 32 kind (session_of s) }
-{
-    if s.mark == kind {
-        well_formed(s)
-    } else {
-        false
+    // The machine at work in it.
+    pub fn core(self) -> Core
+        ensures { core_of result ≡ promise.core (session_of self) }
+    {
+        let Session {
+            blocks,
+            buf,
+            fill,
+            ..
+        } = self;
+        Core {
+            state: State { blocks },
+            buf,
+            fill,
+        }
     }
-}
 
-// The machine at work in a session.
-pub fn core_of(s: Session) -> Core
-    ensures { core_of result ≡ promise.core (session_of s) }
-{
-    let b = s.blocks;
-    let state = State { blocks: b };
-    let buf = s.buf;
-    Core {
-        state: state,
-        buf: buf,
-        fill: s.fill,
+    // With its machine brought to `core`.
+    pub fn with_core(self, core: Core) -> Session
+        ensures { session_of result ≡ with_core (session_of self) (core_of core) }
+    {
+        let Core { state, buf, fill } = core;
+        let State { blocks } = state;
+        Session {
+            blocks,
+            buf,
+            fill,
+            ..self
+        }
+    }
+
+    // With its counter brought to `length`.
+    pub fn with_length(self, length: MessageLength) -> Session
+        ensures { session_of result ≡ with_total (session_of self) length.total }
+    {
+        Session {
+            msg_len: length.total,
+            ..self
+        }
     }
 }

@@ -14,14 +14,14 @@ use Rattle.answers.specs.Answers as answers
 use Rattle.answers.proofs.Answers.{FinishOk, OpenFinishOk, AbortOk, finish_ok, open_finish_ok, abort_ok}
 use Rattle.lent.specs.Lent.{same, wiped}
 use Rattle.lent.proofs.Wiped.{wiped-fits}
-use Rattle.promises.specs.Cipher.{Cipher, Mac}
+use Rattle.promises.specs.Cipher.{Cipher}
 use Rattle.promises.specs.Texts.{onto}
 use Rattle.promises.specs.SessionCalls.{Handed, Wrote, Opened}
-use Rattle.promises.specs.Session.{pick, sealing, opening, macing, Session, if_opening, well_formed, live, ended, abort_live}
-use Rattle.promises.specs.SessionCalls.{seal_finish, mac_finish, mac_finish_check, released, open_finish, abort}
-use Rattle.promises.specs.Session.{session_tag, session_mac}
+use Rattle.promises.specs.Session.{pick, opening, Session, if_opening, well_formed, live, ended, abort_live}
+use Rattle.promises.specs.SessionCalls.{released, open_finish, abort}
+use Rattle.promises.specs.Session.{session_tag}
 use Rattle.promises.proofs.SessionLive.{live_facts, opening_facts, abort_live_facts}
-use Rattle.promises.proofs.Ladder.{does, refuses}
+use Rattle.promises.proofs.Ladder.{does}
 use Rattle.promises.proofs.Onto.{onto-zeros}
 use Rattle.session.proofs.LiveFacts.{live_formed}
 
@@ -45,46 +45,6 @@ module _ {S : Type 0} (C : Cipher S) where
         let o : FinishOk (live rate kind s) (length tag) s.tag_size = finish_ok (sym ladder ∙ h) in
         (live_formed C s kind o.is_live, o.own_size)
 
-  -- ---- sealing
-
-  module _ (s : Session S) (tag : List ℕ) (l : Bool) (a : ℕ)
-      (is_live : l ≡ live rate sealing s) (answer : a ≡ answers.finish l (length tag) s.tag_size) where
-    pub seal_refused : (a ≡ 0 → ⊥) → ◌≡◌ {A = Wrote S} (record { answer = a; session = s; out = tag }) (seal_finish C s tag)
-    unfolding seal_finish
-    seal_refused h = refuses _ a _ _ (ladder sealing s tag l a is_live answer) h
-
-    pub seal_done : a ≡ 0 → (g : Handed S) (o : List ℕ) → Over g 0 → o ≡ session_tag C s
-        → ◌≡◌ {A = Wrote S} (record { answer = g.answer; session = g.session; out = o }) (seal_finish C s tag)
-    unfolding seal_finish
-    seal_done h g o eg eo =
-        does _ a _ _ _ (ladder sealing s tag l a is_live answer) h (λ k. record { answer = (eg k).answer; session = (eg k).session; out = eo k })
-
-  -- ---- MAC
-
-  module _ (M : Mac S) (s : Session S) (tag : List ℕ) (l : Bool) (a : ℕ)
-      (is_live : l ≡ live rate macing s) (answer : a ≡ answers.finish l (length tag) s.tag_size) where
-    pub mac_refused : (a ≡ 0 → ⊥) → ◌≡◌ {A = Wrote S} (record { answer = a; session = s; out = tag }) (mac_finish C M s tag)
-    unfolding mac_finish
-    mac_refused h = refuses _ a _ _ (ladder macing s tag l a is_live answer) h
-
-    pub mac_done : a ≡ 0 → (g : Handed S) (o : List ℕ) → Over g 0 → o ≡ session_mac C M s
-        → ◌≡◌ {A = Wrote S} (record { answer = g.answer; session = g.session; out = o }) (mac_finish C M s tag)
-    unfolding mac_finish
-    mac_done h g o eg eo =
-        does _ a _ _ _ (ladder macing s tag l a is_live answer) h (λ k. record { answer = (eg k).answer; session = (eg k).session; out = eo k })
-
-    pub check_refused : (a ≡ 0 → ⊥) → ◌≡◌ {A = Handed S} (record { answer = a; session = s }) (mac_finish_check C M s tag)
-    unfolding mac_finish_check
-    check_refused h = refuses _ a _ _ (ladder macing s tag l a is_live answer) h
-
-    -- the verdict, m
-    module _ (h : a ≡ 0) (g : Handed S) (m v : Bool) (verdict : m ≡ same tag (session_mac C M s)) (came : m ≡ v) where
-      pub check_done : Over g (answers.unless 7 v 0) → g ≡ mac_finish_check C M s tag
-      unfolding mac_finish_check
-      check_done eg =
-          does _ a _ _ _ (ladder macing s tag l a is_live answer) h
-          (eg ∙ (λ k. record { answer = answers.unless 7 ((sym came ∙ verdict) k) 0; session = ended C }))
-
   -- ---- what an opener erases
 
   erasing : (t : Bool) (n : ℕ) (plain : List ℕ) → (t ≡ true → n ≤ length plain) → pick t (wiped n 0 plain) plain ≡ pick t (onto (zeros n) plain) plain
@@ -102,10 +62,6 @@ module _ {S : Type 0} (C : Cipher S) where
     open_ok : a ≡ 0 → OpenFinishOk (live rate opening s) (length plain) s.room (length tag) s.tag_size
     open_ok h = open_finish_ok (sym open_ladder ∙ h)
 
-    pub open_refused : (a ≡ 0 → ⊥) → ◌≡◌ {A = Opened S} (record { answer = a; count = 0; session = s; out = plain }) (open_finish C s tag plain)
-    unfolding open_finish
-    open_refused h = refuses _ a _ _ open_ladder h
-
     module _ (h : a ≡ 0) where
       pub open_asks : (well_formed rate s ≡ true) × (length tag ≡ s.tag_size)
       open_asks = (live_formed C s opening (open_ok h).is_live, (open_ok h).own_size)
@@ -115,13 +71,6 @@ module _ {S : Type 0} (C : Cipher S) where
       open_within = let f = opening_facts rate s (open_ok h).is_live in omega (arith, f.within_room, (open_ok h).same_buffer)
 
       module _ (m : Bool) (verdict : m ≡ same tag (session_tag C s)) (t : Session S) (over : t ≡ ended C) where
-        pub open_released : m ≡ true → ◌≡◌ {A = Opened S} (record { answer = 0; count = s.written; session = t; out = plain }) (open_finish C s tag plain)
-        unfolding open_finish released
-        open_released e =
-            does _ a _ _ _ open_ladder h
-            ((λ k. record { answer = 0; count = s.written; session = over k; out = plain })
-            ∙ ap (λ (v : Bool). released C v s plain) (sym e ∙ verdict))
-
         pub open_erased : m ≡ false → (o : List ℕ) → o ≡ if_opening s (wiped s.written 0 plain) plain
             → ◌≡◌ {A = Opened S} (record { answer = 7; count = 0; session = t; out = o }) (open_finish C s tag plain)
         unfolding open_finish released
@@ -144,10 +93,6 @@ module _ {S : Type 0} (C : Cipher S) where
       (answer : a ≡ answers.abort l same_buffer) where
     abort-ladder : a ≡ answers.abort (abort_live C s) (if_opening s (eqb (length plain) s.room) true)
     abort-ladder = answer ∙ (λ k. answers.abort (is_live k) (is_lent k))
-
-    pub abort_refused : (a ≡ 0 → ⊥) → ◌≡◌ {A = Wrote S} (record { answer = a; session = s; out = plain }) (abort C s plain)
-    unfolding abort
-    abort_refused h = refuses _ a _ _ abort-ladder h
 
     module _ (h : a ≡ 0) where
       abort_within : eqb s.mark opening ≡ true → s.written ≤ length plain

@@ -3,136 +3,99 @@
 
 ghost use Rattle.std.specs.Prelude.{◌≡◌, ◌<◌};
 ghost use Rattle.lent.specs.Lent.{over};
+ghost use Rattle.answers.specs.Refusals.{answer_of};
 ghost use Rattle.promises.specs.Met.{SealPieceMet, SealPieceInPlaceMet, OpenPieceMet, MacPieceMet};
 ghost use Rattle.aegis128l.specs.Cipher.{aegis128l};
-ghost use Rattle.aegis128l_core.specs.View.{core_of};
-ghost use Rattle.session.specs.View.{session_of, with_total, with_core, fed_with, out_with, handed_of};
+ghost use Rattle.session.specs.View.{session_of, fed_with, out_with};
 
-use aegis128l_core::Core;
-use answers::length::Added;
-use session::{Piece, Session};
+use aegis128l::mode::Mode;
+use session::{Handed, Kind, Session};
 
-// What a ladder answers, beside the session with the counter that it hands back: of a refused piece that is the session as it was.
-fn counted(s: Session, a: Added) -> Piece
-    ensures { handed_of result ≡ record { answer = a.answer; session = with_total (session_of s) a.counter.total } }
-{
-    let counter = a.counter;
-    let mut r = s;
-    r.msg_len = counter.total;
-    Piece {
-        answer: a.answer,
-        session: r,
-    }
-}
-
-// The session with its machine brought to c.
-fn with_core(s: Session, c: Core) -> Session
-    ensures { session_of result ≡ with_core (session_of s) (core_of c) }
-{
-    let state = c.state;
-    let blocks = state.blocks;
-    let buf = c.buf;
-    let mut r = s;
-    r.blocks = blocks;
-    r.buf = buf;
-    r.fill = c.fill;
-    r
-}
-
-// A piece goes through the machine in place, once it is counted.
-fn transformed(s: Session, decrypt: bool, buf: &mut [u8]) -> Session
+// A piece goes through the machine in place.
+fn transformed(s: Session, mode: Mode, buf: &mut [u8]) -> Session
     requires { s.fill < 32 }
-    ensures { (session_of result ≡ fed_with decrypt (session_of s) buf.old)
-        × (buf.new ≡ out_with decrypt (session_of s) buf.old) }
+    ensures { (session_of result ≡ fed_with mode (session_of s) buf.old)
+        × (buf.new ≡ out_with mode (session_of s) buf.old) }
 {
     let t = aes::sbox();
-    let c = session::core_of(s).transform(decrypt, buf, &t);
-    with_core(s, c)
+    s.with_core(s.core().transform(mode, buf, &t))
 }
 
 // And from one buffer to another, over which it is laid first.
-fn transformed_into(s: Session, decrypt: bool, src: &[u8], dst: &mut [u8]) -> Session
+fn transformed_into(s: Session, mode: Mode, src: &[u8], dst: &mut [u8]) -> Session
     requires { s.fill < 32 }
-    ensures { (session_of result ≡ fed_with decrypt (session_of s) (over src.now dst.old))
-        × (dst.new ≡ out_with decrypt (session_of s) (over src.now dst.old)) }
+    ensures { (session_of result ≡ fed_with mode (session_of s) (over src.now dst.old))
+        × (dst.new ≡ out_with mode (session_of s) (over src.now dst.old)) }
 {
     lent::put(src, dst);
-    transformed(s, decrypt, dst)
+    transformed(s, mode, dst)
 }
 
 // A sealing piece writes its whole output buffer.
-pub fn seal_piece(s: Session, msg: &[u8], out: &mut [u8]) -> Piece
+pub fn seal_piece(s: Session, msg: &[u8], out: &mut [u8]) -> Handed<()>
     ensures { SealPieceMet aegis128l (session_of s) msg.now out.old
-        result.answer (session_of result.session) out.new }
+        (answer_of result.outcome) (session_of result.session) out.new }
 {
-    let live = session::live(s, session::SEALING);
-    let n = msg.len();
-    let a = answers::pieces::seal_piece(live, n, out.len(), s.msg_len);
-    let p = counted(s, a);
-    if p.answer != answers::DONE {
-        return p;
-    }
-    let r = transformed_into(p.session, false, msg, &mut out[0..n]);
-    Piece {
-        answer: answers::DONE,
-        session: r,
+    let live = s.is_live(Kind::Sealing);
+    match answers::pieces::seal_piece(live, msg.len(), out.len(), s.msg_len) {
+        Ok(length) => Handed {
+            outcome: Ok(()),
+            session: transformed_into(s, Mode::Encrypt, msg, out).with_length(length),
+        },
+        Err(refusal) => s.refused(refusal),
     }
 }
 
-pub fn seal_piece_in_place(s: Session, buf: &mut [u8]) -> Piece
+pub fn seal_piece_in_place(s: Session, buf: &mut [u8]) -> Handed<()>
     ensures { SealPieceInPlaceMet aegis128l (session_of s) buf.old
-        result.answer (session_of result.session) buf.new }
+        (answer_of result.outcome) (session_of result.session) buf.new }
 {
-    let live = session::live(s, session::SEALING);
-    let a = answers::pieces::piece(live, buf.len(), s.msg_len);
-    let p = counted(s, a);
-    if p.answer != answers::DONE {
-        return p;
-    }
-    let r = transformed(p.session, false, buf);
-    Piece {
-        answer: answers::DONE,
-        session: r,
+    let live = s.is_live(Kind::Sealing);
+    match answers::pieces::piece(live, buf.len(), s.msg_len) {
+        Ok(length) => Handed {
+            outcome: Ok(()),
+            session: transformed(s, Mode::Encrypt, buf).with_length(length),
+        },
+        Err(refusal) => s.refused(refusal),
     }
 }
 
 // The next chunk of the plaintext buffer, decrypted in place; no other byte changes.
-pub fn open_piece(s: Session, ct: &[u8], plain: &mut [u8]) -> Piece
+pub fn open_piece(s: Session, ct: &[u8], plain: &mut [u8]) -> Handed<()>
     ensures { OpenPieceMet aegis128l (session_of s) ct.now plain.old
-        result.answer (session_of result.session) plain.new }
+        (answer_of result.outcome) (session_of result.session) plain.new }
 {
-    let live = session::live(s, session::OPENING);
-    let w = s.written;
-    let n = ct.len();
-    let a = answers::pieces::open_piece(live, plain.len(), s.room, w, n, s.msg_len);
-    let p = counted(s, a);
-    if p.answer != answers::DONE {
-        return p;
-    }
-    let e = w + n;
-    let mut r = transformed_into(p.session, true, ct, &mut plain[w..e]);
-    r.written = e;
-    Piece {
-        answer: answers::DONE,
-        session: r,
+    let live = s.is_live(Kind::Opening);
+    match answers::pieces::open_piece(live, plain.len(), s.room, s.written, ct.len(), s.msg_len) {
+        Ok(length) => {
+            let end = s.written + ct.len();
+            let fed = transformed_into(s, Mode::Decrypt, ct, &mut plain[s.written..end]);
+            Handed {
+                outcome: Ok(()),
+                session: Session {
+                    written: end,
+                    ..fed.with_length(length)
+                },
+            }
+        }
+        Err(refusal) => s.refused(refusal),
     }
 }
 
-pub fn mac_piece(s: Session, data: &[u8]) -> Piece
+pub fn mac_piece(s: Session, data: &[u8]) -> Handed<()>
     ensures { MacPieceMet aegis128l (session_of s) «data».now
-        result.answer (session_of result.session) }
+        (answer_of result.outcome) (session_of result.session) }
 {
-    let live = session::live(s, session::MACING);
-    let a = answers::pieces::piece(live, data.len(), s.msg_len);
-    let p = counted(s, a);
-    if p.answer != answers::DONE {
-        return p;
-    }
-    let t = aes::sbox();
-    let c = session::core_of(p.session).absorb(data, &t);
-    let r = with_core(p.session, c);
-    Piece {
-        answer: answers::DONE,
-        session: r,
+    let live = s.is_live(Kind::Macing);
+    match answers::pieces::piece(live, data.len(), s.msg_len) {
+        Ok(length) => {
+            let t = aes::sbox();
+            let fed = s.with_core(s.core().absorb(data, &t));
+            Handed {
+                outcome: Ok(()),
+                session: fed.with_length(length),
+            }
+        }
+        Err(refusal) => s.refused(refusal),
     }
 }

@@ -1,4 +1,4 @@
--- Tallies      no count of a tally grows faster than the place in the list
--- Walking      a section after one step more
+-- Tallies      a tally that has counted nothing
+-- Walking      a walk goes on with a section after one record more
 pub mod Tallies
 pub mod Walking

@@ -1,37 +1,36 @@
--- A section after one step more: it stands behind a record that holds.
+-- A walk goes on with a section after one record more.
 -- Assumes nothing.
-use Prim.Native.Nat.{ℕ, ◌+◌, ◌-◌, ◌≤◌, ◌<◌}
-use mathlib.Core.Path.{◌≡◌, sym, ap, subst, ◌∙◌}
-use mathlib.Core.Bool.{cond}
+use Prim.Native.Nat.{ℕ, ◌+◌, ◌≤◌}
+use mathlib.Core.Path.{◌≡◌, sym, ap, subst}
 use mathlib.Core.List.{List}
 use native.Mathlib.Omega.{arith}
-use lib.Dec.{eqb}
 use lib.ListN.{length, drop, length-drop}
-use Rattle.recorded.specs.declared.list.Layout.{Layout}
-use Rattle.recorded.specs.List.{kind_of, LaidOut, Fits}
-use Rattle.vectors.specs.declared.replay.Tally.{Tally}
+use Rattle.std.specs.Prelude.{Option, Some, IfSome}
+use Rattle.std.specs.Option.{MatchOption}
+use Rattle.recorded.specs.declared.list.Kind.{Kind}
+use Rattle.recorded.specs.declared.list.Record.{Record}
+use Rattle.recorded.specs.declared.list.Entry.{Entry}
+use Rattle.recorded.specs.declared.list.Entry.TheVariants as entry
+use Rattle.recorded.specs.Entries.{Begins, Taken}
 use Rattle.vectors.specs.declared.replay.Section.{Section}
-use Rattle.vectors.specs.Walk.{Holds, Walked, step, counted, Small, Stepped}
-use Rattle.vectors.proofs.Tallies.{counted_small}
+use Rattle.vectors.specs.Walk.{Walked, step, Stepped}
 
--- it goes on behind a record that holds
-pub goes_on : (l rest : List ℕ) (s : Section) (lay : Layout) (kind k : ℕ) {t : Tally} → s.at ≤ length l → rest ≡ drop s.at l
-    → kind ≡ kind_of rest → LaidOut rest lay → Fits lay (length rest) → Holds lay rest kind → k ≤ 8192 → Small s.tally s.at
-    → t ≡ counted s.tally kind k → Stepped l s (record { state = 0; at = s.at + lay.end; tally = t })
-goes_on l rest s lay kind k {t} h e ek laid fits holds few small et =
-    let some : 0 < lay.end = omega (arith, fits.head, fits.msg_first, fits.then_ct, fits.then_tag) in
-    let n : length rest ≡ length l - s.at = ap length e ∙ length-drop s.at l in
-    record {
-      walked = λ from w.
-          subst (Walked l from (s.at + lay.end)) (ap (λ (x : ℕ). counted s.tally x k) (sym (ek ∙ ap kind_of e)) ∙ sym et)
-          (step lay k w (subst (λ (x : List ℕ). LaidOut x lay) e laid)
-          (subst (Holds lay (drop s.at l)) (ek ∙ ap kind_of e) (subst (λ (x : List ℕ). Holds lay x kind) e holds)));
-      small = subst (λ (x : Tally). Small x (s.at + lay.end)) (sym et) (counted_small s.tally kind k s.at lay.end few some small);
-      inside = omega (arith, fits.inside);
-      further = λ z. omega arith;
-    }
+-- what a list begins with, where that is a record
+pub taken_of : {l : List ℕ} {e : Option Entry} {kind : Kind} {r : Record} {end : ℕ} → IfSome e (Begins l) → e ≡ Some (entry.Record kind r end)
+    → Taken l kind r end
+taken_of {l = l} b is = subst (λ (e : Option Entry). IfSome e (Begins l)) is b
 
--- ---- what is left: nothing once it has stopped, else the bytes from its place on
+-- what a step gives, where that is a section
+pub stepped_of : {left : List ℕ} (P : Type 0) {s r : Section} {o : Option Section} → MatchOption o P (λ (n : Section). Stepped left s n) → o ≡ Some r
+    → Stepped left s r
+stepped_of {left = left} P {s = s} m is = subst (λ (o : Option Section). MatchOption o P (λ (n : Section). Stepped left s n)) is m
 
-abbrev pub left : ℕ → ℕ → ℕ → ℕ
-left n state at = cond (eqb state 0) (n - at + 1) 0
+module _ (l : List ℕ) {left : List ℕ} {s r : Section} (n : Stepped left s r) (here : left ≡ drop s.at l) where
+  pub walked_on : {from : ℕ} → Walked l from s.at s.tally → Walked l from r.at r.tally
+  walked_on {from = from} w =
+      let taken = subst (λ (x : List ℕ). Taken x n.kind n.parts n.end) here n.taken in
+      subst (λ (at : ℕ). Walked l from at r.tally) (sym n.further)
+      (subst (Walked l from (s.at + n.end)) (sym n.counts) (step n.kind n.parts n.end n.cuttings w taken n.holds))
+
+  pub inside_on : s.at ≤ length l → r.at ≤ length l
+  inside_on h = omega (arith, n.further, n.taken.inside, ap length here, length-drop s.at l)

@@ -1,2 +1,3 @@
--- What the replay of a section has shown and counted.
+-- How the replay counts, and what the replay of a section has shown.
+pub mod Tallies
 pub mod Walk

@@ -2,128 +2,95 @@
 // and short ones through the sessions, cut everywhere. It counts what was equal, and stops at the first record that is not.
 #![tactic(auto)]
 
-ghost use Rattle.std.specs.Prelude.{◌+◌, ◌≤◌, ◌<◌, ◌≡◌, true, length};
-ghost use Rattle.vectors.specs.Walk.{Small};
+ghost use Rattle.std.specs.Prelude.{◌≡◌, ◌+◌, ◌≤◌, ◌<◌, length, IfOk};
+ghost use Rattle.vectors.specs.Walk.{Walked};
 
-use crate::replay::{Section, Tally};
+use crate::replay::{Fault, List, Section};
+use recorded::list::Mark;
+use std::io::Read;
+use std::{fmt, io};
 
 mod records;
 mod replay;
+mod tally;
 
-// The numbers of standard input and standard output.
-const STDIN: i32 = 0;
+// What the list can have.
+const ROOM: usize = 131072;
 
-const STDOUT: i32 = 1;
-
-fn say(text: &[u8]) {
-    io::write_all(STDOUT, text);
+// What is wrong with the list: a record, counted from 1, or what stands at a place.
+#[derive(Clone, Copy)]
+enum Wrong {
+    Record(usize),
+    Place(usize),
 }
 
-fn say_number(n: usize) {
-    io::print_decimal(STDOUT, n as u64);
+impl fmt::Display for Wrong {
+    fn fmt<W: fmt::Write>(&self, f: &mut fmt::Formatter<W>) -> fmt::Result {
+        match *self {
+            Wrong::Record(number) => write!(f, "record {number} differs"),
+            Wrong::Place(at) => write!(f, "bad list at byte {at}"),
+        }
+    }
 }
 
-fn say_tally(t: Tally) {
-    say_number(t.seals);
-    say(b" seals, ");
-    say_number(t.refusals);
-    say(b" refusals, ");
-    say_number(t.macs);
-    say(b" MACs, ");
-    say_number(t.streams);
-    say(b" streams equal\n");
+impl List<'_> {
+    // A section of the list, behind so many records of earlier ones.
+    fn section(&self, from: usize, until: Mark, before: usize) -> Result<Section, Wrong>
+        requires { (from ≤ length self.now.bytes.now) × (before ≤ 4294967296) }
+        ensures inside { IfOk result (λ s. s.at < length self.now.bytes.now) }
+        ensures walked { IfOk result (λ s. Walked self.now.bytes.now from s.at s.tally) }
+    {
+        self.walk(from, until)
+            .map_err(|stopped| match stopped.fault {
+                Fault::Differs => Wrong::Record(before + stopped.section.records() + 1),
+                Fault::Malformed => Wrong::Place(stopped.section.at),
+            })
+    }
+
+    // The published vectors and the recorded answers, where all are equal.
+    fn replayed(&self) -> Result<(Section, Section), Wrong>
+        ensures published { IfOk result (λ p. Walked self.now.bytes.now 0 p.0.at p.0.tally) }
+        ensures recorded { IfOk result (λ p. Walked self.now.bytes.now (p.0.at + 1) p.1.at p.1.tally) }
+        ensures whole { IfOk result (λ p. p.1.at + 1 ≡ length self.now.bytes.now) }
+    {
+        let published = self.section(0, Mark::Separator, 0)?;
+        let recorded = self.section(published.at + 1, Mark::End, published.records())?;
+        if recorded.at + 1 != self.bytes.len() {
+            return Err(Wrong::Place(recorded.at + 1));
+        }
+        Ok((published, recorded))
+    }
 }
 
-fn say_cuttings(a: Tally, b: Tally)
-    requires { (Small a 131072) × (Small b 131072) }
+// Reads until the input ends, a read fails, or there is no room left: how many bytes that were.
+fn read<R: Read>(input: &mut R, room: &mut [u8]) -> usize
+    ensures { result ≤ length room.new }
 {
-    say(b"cut: ");
-    say_number(a.cut_seals + b.cut_seals);
-    say(b" seals, ");
-    say_number(a.cut_openings + b.cut_openings);
-    say(b" openings, ");
-    say_number(a.cut_macs + b.cut_macs);
-    say(b" MACs equal\n");
+    let mut n = 0;
+    while n < room.len() {
+        match input.read(&mut room[n..]) {
+            Ok(more) if more > 0 => n += more,
+            _ => break,
+        }
+    }
+    n
 }
 
-fn say_bad_list(at: usize) {
-    say(b"bad list at byte ");
-    say_number(at);
-    say(b"\n");
-}
-
-// Records are counted from 1.
-fn say_differs(before: usize)
-    requires { before < 1099511627776 }
-{
-    say(b"record ");
-    say_number(before + 1);
-    say(b" differs\n");
-}
-
-fn record_count(t: Tally) -> usize
-    requires { Small t 131072 }
-    ensures { result ≤ 8589934592 }
-{
-    t.seals + t.refusals + t.macs + t.streams
-}
-
-// Whether a section ended in this kind; else what is wrong is said. `before` records came before it.
-fn ended(list: &[u8], s: Section, kind: u8, before: usize) -> bool
-    requires { (Small s.tally 131072) × (before ≤ 8589934592) }
-    ensures { result ≡ true → s.at < length list.now }
-{
-    if s.state == replay::DIFFERS {
-        say_differs(before + record_count(s.tally));
-        return false;
+fn main(rt: HostRuntime) -> io::Result<()> {
+    let mut room = [0; ROOM];
+    let n = read(&mut rt.reader(), &mut room);
+    let list = List { bytes: &room[..n] };
+    match list.replayed() {
+        Ok((published, recorded)) => {
+            let a = published.tally;
+            let b = recorded.tally;
+            println!(rt; "published: {a}")?;
+            println!(rt; "recorded: {b}")?;
+            let seals = a.cut_seals + b.cut_seals;
+            let openings = a.cut_openings + b.cut_openings;
+            let macs = a.cut_macs + b.cut_macs;
+            println!(rt; "cut: {seals} seals, {openings} openings, {macs} MACs equal")
+        }
+        Err(wrong) => println!(rt; "{wrong}"),
     }
-    let at = s.at;
-    if s.state == replay::MALFORMED {
-        say_bad_list(at);
-        return false;
-    }
-    if at >= list.len() {
-        say_bad_list(at);
-        return false;
-    }
-    if list[at] != kind {
-        say_bad_list(at);
-        return false;
-    }
-    true
-}
-
-fn run(list: &[u8])
-    requires { length list.now ≤ 131072 }
-{
-    let a = replay::walk_from(list, 0);
-    if !ended(list, a, recorded::list::SEPARATOR, 0) {
-        return;
-    }
-    let b = replay::walk_from(list, a.at + 1);
-    if !ended(list, b, recorded::list::END, record_count(a.tally)) {
-        return;
-    }
-    if b.at + 1 != list.len() {
-        say_bad_list(b.at + 1);
-        return;
-    }
-    say(b"published: ");
-    say_tally(a.tally);
-    say(b"recorded: ");
-    say_tally(b.tally);
-    say_cuttings(a.tally, b.tally);
-}
-
-// Room for the whole list.
-fn room() -> [u8; 131072]
-    ensures { 131072 ≡ length result }
-{
-    [0; 131072]
-}
-
-fn main() {
-    let mut input = room();
-    let n = io::read_full(STDIN, &mut input);
-    run(&input[..n]);
 }

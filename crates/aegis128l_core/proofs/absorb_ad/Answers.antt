@@ -4,10 +4,10 @@ use Rattle.aegis128l.specs.Aegis128L as draft
 use Rattle.aegis128l_core.proofs.Absorbing.{absorbed_below, absorbed_closed}
 use Rattle.aegis128l_core.proofs.absorb_ad.Goals as goal
 
-pub close-requires-clause-fill_bound : goal.close-requires-clause-fill_bound
-close-requires-clause-fill_bound c =
+pub close-requires : goal.close-requires
+close-requires c =
     let A = c.args in
-    absorbed_below draft.machine (state_of A.s) A.ad.now c.absorb_blocks-c.ensures
+    absorbed_below draft.machine (state_of A.s) A.ad.now c.absorb_blocks.ensures
 
 pub returns : goal.returns
-returns c = absorbed_closed draft.machine _ _ c.absorb_blocks-c.ensures c.close.ensures
+returns c = absorbed_closed draft.machine _ _ c.absorb_blocks.ensures c.close.ensures

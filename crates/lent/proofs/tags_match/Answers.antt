@@ -6,13 +6,7 @@ pub returns-then-a-b : goal.returns-then-a-b
 returns-then-a-b c = sym (same_length _ _ c.if-a-b.true)
 
 pub loop-i-preserved : goal.loop-i-preserved
-loop-i-preserved c =
-    let A = c.args in
-    let L = c.loop-i in
-    (omega arith, L.invariant.1 ∙ same_turn A.a.now A.b.now L.i L.d (omega arith) (omega arith))
+loop-i-preserved c = c.loop-i.invariant ∙ same_turn _ _ c.loop-i.i c.loop-i.d (omega arith) (omega arith)
 
 pub returns : goal.returns
-returns c =
-    let A = c.args in
-    let L = c.loop-i in
-    sym (L.invariant.1 ∙ same_end A.a.now A.b.now L.i L.d (omega arith) (omega arith))
+returns c = sym (c.loop-i.invariant ∙ same_end _ _ c.loop-i.i c.loop-i.d (omega arith) (omega arith))

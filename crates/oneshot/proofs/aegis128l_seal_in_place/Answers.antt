@@ -1,23 +1,23 @@
 -- `aegis128l_seal_in_place` meets its contract: a refusal changes nothing; else the buffer is sealed where it is.
-use Rattle.std.proofs.Common.{sym, ◌∙◌}
+use Rattle.std.proofs.Common.{sym}
 use Rattle.answers.proofs.Answers.{one_shot_ok}
 use Rattle.aegis128l.specs.Cipher.{aegis128l}
 use Rattle.oneshot.proofs.SealLeaves.{seal_refuses, seals_in_place}
+use Rattle.oneshot.proofs.Texts.{seals, seals-tag}
 use Rattle.oneshot.proofs.aegis128l_seal_in_place.Goals as goal
 
-pub returns-then-a-ne-DONE : goal.returns-then-a-ne-DONE
-returns-then-a-ne-DONE c = seal_refuses aegis128l _ _ _ _ _ _ c.one_shot-a.ensures c.if-a-ne-DONE.true
+pub returns-in-Err : goal.returns-in-Err
+returns-in-Err c = seal_refuses aegis128l _ _ _ _ _ _ _ c.in-Err.ensures
 
-pub sealed-requires-clause-ad_len_bound : goal.sealed-requires-clause-ad_len_bound
-sealed-requires-clause-ad_len_bound c =
-    let ok = one_shot_ok (sym c.one_shot-a.ensures ∙ c.if-a-ne-DONE.false) in
-    (ok.ad_fits, ok.msg_fits)
+pub invariant_of-lengths : goal.invariant_of-lengths
+invariant_of-lengths c =
+    let ok = one_shot_ok (sym c.in_default.ensures) in
+    record { within_limit = (ok.ad_fits, ok.msg_fits) }
 
-pub sealed-requires-clause-tag_value : goal.sealed-requires-clause-tag_value
-sealed-requires-clause-tag_value c =
-    let ok = one_shot_ok (sym c.one_shot-a.ensures ∙ c.if-a-ne-DONE.false) in
-    ok.tag_size_ok
+pub tag-requires : goal.tag-requires
+tag-requires c = (one_shot_ok (sym c.in_default.ensures)).tag_size_ok
 
 pub returns : goal.returns
 returns c =
-    seals_in_place aegis128l _ _ _ _ _ c.one_shot-a.ensures c.if-a-ne-DONE.false c.sealed.ensures.0 c.sealed.ensures.1
+    seals_in_place aegis128l _ _ _ _ _ (one_shot_ok (sym c.in_default.ensures)) (seals aegis128l _ _ _ _ c.transformed-end.ensures.1)
+    (seals-tag aegis128l _ _ _ _ _ c.transformed-end.ensures.0 c.tag.ensures)

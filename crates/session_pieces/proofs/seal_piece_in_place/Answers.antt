@@ -1,19 +1,26 @@
 -- `seal_piece_in_place` meets its contract: the ladder refuses, or the buffer goes through the machine.
+use Rattle.std.proofs.Common.{sym, ◌∙◌}
+use Rattle.machine.specs.Machine.{enc}
+use Rattle.answers.proofs.Answers.{piece_ok}
+use Rattle.answers.proofs.Counter.{told_done, told_total}
+use Rattle.promises.specs.SessionCalls.{seal_piece_in_place}
+use Rattle.aegis128l.specs.Aegis128L.{machine}
 use Rattle.aegis128l.specs.Cipher.{aegis128l}
-use Rattle.session_pieces.proofs.PieceCalls.{in_place_refused, in_place_asks, in_place_done}
+use Rattle.session.proofs.LiveFacts.{live_fill}
+use Rattle.session_pieces.proofs.PieceCalls.{not_counted, is_counted, advances}
 use Rattle.session_pieces.proofs.seal_piece_in_place.Goals as goal
 
-pub returns-then-p-ne-DONE : goal.returns-then-p-ne-DONE
-returns-then-p-ne-DONE c =
-    in_place_refused aegis128l _ _ _ _ _ c.live-live.ensures c.piece-a.ensures c.counted-p.ensures c.if-p-ne-DONE.true
+pub transformed-requires : goal.transformed-requires
+transformed-requires c =
+    live_fill aegis128l _ 0 (sym c.is_live-live.ensures ∙ (piece_ok (told_done _ _ _ c.in-Ok.ensures)).is_live)
 
-pub transformed-r-requires : goal.transformed-r-requires
-transformed-r-requires c =
-    in_place_asks aegis128l _ c.args.buf.now _ _ _ c.live-live.ensures
-    c.piece-a.ensures c.counted-p.ensures c.if-p-ne-DONE.false
+pub returns-in-Ok : goal.returns-in-Ok
+unfolding seal_piece_in_place
+returns-in-Ok c =
+    let t = c.transformed.ensures in
+    let q = advances machine enc _ _ _ _ _ _ c.with_length.ensures t.0 (told_total _ _ _ c.in-Ok.ensures) in
+    rw (← c.is_live-live.ensures) (is_counted _ _ _ _ _ c.in-Ok.ensures (λ k. record { answer = 0; session = q k; out = t.1 k }))
 
-pub returns : goal.returns
-returns c =
-    let t = c.transformed-r.ensures in
-    in_place_done aegis128l _ _ _ _ _ c.live-live.ensures c.piece-a.ensures c.counted-p.ensures
-    c.if-p-ne-DONE.false _ _ t.0 t.1
+pub returns-in-Err : goal.returns-in-Err
+unfolding seal_piece_in_place
+returns-in-Err c = rw c.refused.ensures.outcome (rw c.refused.ensures.session (rw (← c.is_live-live.ensures) (not_counted _ _ _ _ _ _ c.in-Err.ensures)))

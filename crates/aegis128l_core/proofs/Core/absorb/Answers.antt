@@ -13,10 +13,10 @@ returns-then-input-eq0 c =
     let A = c.args in
     (nothing (silent draft.machine) enc (core_of A.self) A.input.now c.if-input-eq0.true).0
 
-pub returns-then-f-eq0 : goal.returns-then-f-eq0
-returns-then-f-eq0 c =
+pub returns-then-self-eq0 : goal.returns-then-self-eq0
+returns-then-self-eq0 c =
     let A = c.args in
-    c.absorb_blocks.ensures ∙ sym (after-fresh (silent draft.machine) enc (core_of A.self) c.if-f-eq0.true A.input.now (omega arith))
+    c.absorb_blocks.ensures ∙ sym (after-fresh (silent draft.machine) enc (core_of A.self) c.if-self-eq0.true A.input.now (omega arith))
 
 pub returns : goal.returns
 returns c =
@@ -25,4 +25,4 @@ returns c =
     let l = A.input.now in
     let n = 32 - A.self.fill in
     absorbed_both (silent draft.machine) enc (core_of A.self) l n full (omega arith) (omega arith) (omega arith)
-    (n - 0) (omega arith) c.take_in-c.ensures c.absorb_blocks-2.ensures
+    c.take_in-c.ensures c.absorb_blocks-2.ensures

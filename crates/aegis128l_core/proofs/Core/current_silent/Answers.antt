@@ -5,8 +5,8 @@ use Rattle.aegis128l.specs.Aegis128L as draft
 use Rattle.aegis128l_core.specs.View.{core_of}
 use Rattle.aegis128l_core.proofs.Core.current_silent.Goals as goal
 
-pub returns-then-f-eq0 : goal.returns-then-f-eq0
-returns-then-f-eq0 c = sym (silent-fresh draft.machine (core_of c.args.self) c.if-f-eq0.true)
+pub returns-then-self-eq0 : goal.returns-then-self-eq0
+returns-then-self-eq0 c = sym (silent-fresh draft.machine (core_of c.args.self) c.if-self-eq0.true)
 
-pub returns : goal.returns
-returns c = sym (silent-begun draft.machine (core_of c.args.self) (omega arith))
+pub returns-else-self-eq0 : goal.returns-else-self-eq0
+returns-else-self-eq0 c = sym (silent-begun draft.machine (core_of c.args.self) (omega arith))

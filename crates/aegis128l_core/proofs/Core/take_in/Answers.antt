@@ -10,6 +10,6 @@ returns c =
     let full : length c.args.self.buf ≡ 32 = search rules in
     let A = c.args in
     let xs = A.part.now in
-    let p = c.requires.part_nonzero in
+    let p = c.requires in
     taken_in draft.machine (core_of A.self) xs full p.0 p.1 ((A.self.fill + length xs) - A.self.fill) _
     c.current_silent-b.ensures (omega arith) c.put.ensures c.settled.ensures

@@ -9,13 +9,13 @@ use Rattle.aegis128l_core.proofs.Core.transform.Goals as goal
 pub returns-then-mc-eq0 : goal.returns-then-mc-eq0
 returns-then-mc-eq0 c =
     let A = c.args in
-    nothing draft.machine (mode_of A.decrypt) (core_of A.self) A.mc.now c.if-mc-eq0.true
+    nothing draft.machine (mode_of A.mode) (core_of A.self) A.mc.now c.if-mc-eq0.true
 
-pub returns-then-f-eq0 : goal.returns-then-f-eq0
-returns-then-f-eq0 c =
+pub returns-then-self-eq0 : goal.returns-then-self-eq0
+returns-then-self-eq0 c =
     let A = c.args in
-    from_edge draft.machine (mode_of A.decrypt) (core_of A.self) A.mc.now c.if-f-eq0.true (omega arith)
-    c.blocks-then-f-eq0.ensures.0 c.blocks-then-f-eq0.ensures.1
+    from_edge draft.machine (mode_of A.mode) (core_of A.self) A.mc.now c.if-self-eq0.true (omega arith)
+    c.blocks-then-self-eq0.ensures.0 c.blocks-then-self-eq0.ensures.1
 
 pub returns : goal.returns
 returns c =
@@ -23,6 +23,6 @@ returns c =
     let A = c.args in
     let l = A.mc.now in
     let n = 32 - A.self.fill in
-    transformed_both draft.machine (mode_of A.decrypt) (core_of A.self) l n full (omega arith) (omega arith) (omega arith)
-    (n - 0) (omega arith) c.within-c.ensures.0 c.within-c.ensures.1
+    transformed_both draft.machine (mode_of A.mode) (core_of A.self) l n full (omega arith) (omega arith) (omega arith)
+    c.within-c.ensures.0 c.within-c.ensures.1
     c.blocks-2.ensures.0 c.blocks-2.ensures.1

@@ -10,6 +10,6 @@ pub returns : goal.returns
 returns c =
     let full : length c.args.self.buf ≡ 32 = search rules in
     let A = c.args in
-    let p = c.requires.part_nonzero in
-    falls_within draft.machine (mode_of A.decrypt) (core_of A.self) A.part.now full p.0 p.1 c.current-k.ensures
+    let p = c.requires in
+    falls_within draft.machine (mode_of A.mode) (core_of A.self) A.part.now full p.0 p.1 c.current-k.ensures
     c.filled-b.ensures.1 c.filled-b.ensures.0 c.settled.ensures

@@ -4,4 +4,4 @@ use Rattle.aegis128l_core.proofs.stream.over_block.Goals as goal
 
 pub returns : goal.returns
 returns c =
-    (c.absorb.ensures, covered _ _ _ _ c.keystream-z.ensures c.xor_into.ensures c.requires.part_len_bound)
+    (c.absorb.ensures, covered _ _ _ _ c.keystream.ensures c.xor_into.ensures c.requires)

@@ -1,4 +1,4 @@
-use Rattle.std.proofs.Common.{List, get_or, length, ℕ, ◌-◌, ◌<◌, ◌≤◌}
+use Rattle.std.proofs.Common.{List, length, ℕ, ◌<◌, ◌≤◌}
 use Rattle.aes.proofs.Filling.{Filled}
 use Rattle.aes.proofs.AesBlock.from_part.Given as goal
 
@@ -9,12 +9,9 @@ pub record Least (n long : ℕ) : Type 0 where
   pub one : n < 16 → long ≤ n
 
 pub record Inv (src : List ℕ) (n : ℕ) (bytes : List ℕ) (i : ℕ) : Type 0 where
-  pub filled : Filled (λ k. get_or src k 0) i bytes
+  pub filled : Filled src i bytes
   pub turn : i ≤ n
   pub least : Least n (length src)
 
 abbrev pub invariant-loop-i : goal.invariant-loop-i
 invariant-loop-i l = Inv l.src l.n l.bytes l.i
-
-abbrev pub decreases-loop-i : goal.decreases-loop-i
-decreases-loop-i l = l.n - l.i

@@ -6,15 +6,10 @@ use Rattle.aes.proofs.AesBlock.round.Goals as goal
 pub returns : goal.returns
 unfolding round_of
 returns c =
-    let added = c in
-    let mixed = added in
-    let shifted = mixed in
-    let substituted = shifted in
-    let apart = substituted in
     c.from_columns-bytes.ensures
     ∙ ap bytes_of
-    (added.add_round_key.ensures
+    (c.add_round_key.ensures
     ∙ ap₂ add_round_key
-    (mixed.mix_columns-m.ensures
-    ∙ ap mix_columns (shifted.shift_rows.ensures ∙ ap shift_rows (substituted.sub_bytes-s.ensures ∙ ap sub_bytes apart.to_columns.ensures)))
-    apart.to_columns-key.ensures)
+    (c.mix_columns-m.ensures
+    ∙ ap mix_columns (c.shift_rows.ensures ∙ ap shift_rows (c.sub_bytes-s.ensures ∙ ap sub_bytes c.to_columns.ensures)))
+    c.to_columns-key.ensures)

@@ -1,6 +1,8 @@
 -- `cuttings` meets its contract: the session starts, and every cutting gives the tag.
-use Rattle.cuttings.proofs.MacCuts.{start-maced}
+use Rattle.std.proofs.lemmas.Option.{IfSome_then}
+use Rattle.cuttings.proofs.FromStart.{maced_from_start}
 use Rattle.cuttings.proofs.macing.cuttings.Goals as goal
 
-pub returns : goal.returns
-returns c = ((λ h. start-maced _ _ _ _ c.mac_start-p.ensures c.if-p-ne-DONE.false (c.everywhere.ensures.0 h)), c.everywhere.ensures.1)
+pub returns-clause-maced : goal.returns-clause-maced
+returns-clause-maced c =
+    IfSome_then c.everywhere.result c.everywhere.ensures.shown (λ _ shown. maced_from_start _ _ _ _ c.in_ok-s.ensures shown)

@@ -1,7 +1,8 @@
--- `cuttings` meets its contract: the session starts, and every cutting accepts the tag.
-use Rattle.cuttings.proofs.OpenCuts.{start-accepted}
+-- `cuttings` meets its contract: the session starts, and every cutting is accepted.
+use Rattle.std.proofs.lemmas.Option.{IfSome_then}
+use Rattle.cuttings.proofs.FromStart.{accepted_from_start}
 use Rattle.cuttings.proofs.opening.cuttings.Goals as goal
 
-pub returns : goal.returns
-returns c =
-    ((λ h. start-accepted _ _ _ _ _ _ c.open_start-p.ensures c.if-p-ne-DONE.false (c.everywhere.ensures.0 h)), c.everywhere.ensures.1)
+pub returns-clause-accepted : goal.returns-clause-accepted
+returns-clause-accepted c =
+    IfSome_then c.everywhere.result c.everywhere.ensures.shown (λ _ shown. accepted_from_start _ _ _ _ _ _ c.in_ok-s.ensures shown)

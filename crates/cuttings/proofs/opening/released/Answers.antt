@@ -1,6 +1,9 @@
--- `released` meets its contract: the call answers 0, which is the verdict that the tag is the ciphertext's.
-use Rattle.cuttings.proofs.OpenCuts.{finish_accepts}
+-- `released` meets its contract: an opening that is released has the tag that is due.
+use Rattle.std.proofs.Common.{rules}
+use Rattle.lent.proofs.Same.{same_equal}
+use Rattle.promises.specs.SessionCalls.{open_finish, released}
 use Rattle.cuttings.proofs.opening.released.Goals as goal
 
 pub returns : goal.returns
-returns c h = finish_accepts _ _ _ c.open_finish-f.ensures c.if-o-ne-DONE.false
+unfolding open_finish released
+returns c = search (rules, same_equal)

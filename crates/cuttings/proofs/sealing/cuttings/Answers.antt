@@ -1,7 +1,8 @@
 -- `cuttings` meets its contract: the session starts, and every cutting seals the message.
-use Rattle.cuttings.proofs.SealCuts.{start-sealed}
+use Rattle.std.proofs.lemmas.Option.{IfSome_then}
+use Rattle.cuttings.proofs.FromStart.{sealed_from_start}
 use Rattle.cuttings.proofs.sealing.cuttings.Goals as goal
 
-pub returns : goal.returns
-returns c =
-    ((λ h. start-sealed _ _ _ _ _ _ c.seal_start-p.ensures c.if-p-ne-DONE.false (c.everywhere.ensures.0 h)), c.everywhere.ensures.1)
+pub returns-clause-sealed : goal.returns-clause-sealed
+returns-clause-sealed c =
+    IfSome_then c.everywhere.result c.everywhere.ensures.shown (λ _ shown. sealed_from_start _ _ _ _ _ _ c.in_ok-s.ensures c.if-record-n.false shown)

@@ -1,17 +1,14 @@
--- `open_parts` meets its contract: the key, the nonce, the AD and the tag are copied, and the ciphertext is opened where it stands.
-use Rattle.std.proofs.Common.{arith, length, refl, ◌-◌}
-use Rattle.hub_record.proofs.RecordParts.{copied-whole, copied, parts_opened}
+-- `open_parts` meets its contract: each part is lent where it stands, and the ciphertext is opened there.
+use Rattle.std.proofs.Common.{List, ℕ, ap, take, drop, ◌∙◌}
+use Rattle.hub_record.proofs.RecordParts.{parts_opened}
 use Rattle.hub_record.proofs.opening.open_parts.Goals as goal
 
 pub returns : goal.returns
 returns c =
-    let l = c.args.input.now in
-    let a = c.args.a in
-    let e = c.args.e in
-    let p = c.requires in
-    parts_opened l a e _ p.1.1.0
-    (copied-whole 1 17 l _ c.put.ensures (omega (arith, p)) refl)
-    (copied-whole 17 33 l _ c.put-2.ensures (omega (arith, p)) refl)
-    (copied 35 a l _ c.put-3.ensures (omega (arith, p)) (a - 35 - 0) (omega arith) (omega (arith, p)))
-    (copied e (length l) l _ c.put-4.ensures (omega arith) (length l - e - 0) (omega arith) (omega (arith, p)))
+    let p = c.args.text in
+    let f = c.split_at_mut-front.ensures in
+    let t = c.split_at_mut-ciphertext.ensures in
+    parts_opened c.args.input.now p.start p.count c.requires.0 c.requires.1 f.front
+    (t.front ∙ ap (λ (x : List ℕ). take p.count x) f.back)
+    (t.back ∙ ap (λ (x : List ℕ). drop p.count x) f.back)
     c.aegis128l_open_in_place.ensures

@@ -1,32 +1,28 @@
 -- `shape` meets its contract: each return is one way down the ladder.
-use Rattle.answers.proofs.Ladder.{rungs}
 use Rattle.hub_record.specs.Record.{shape}
+use Rattle.hub_record.proofs.Rungs.{handed_on, climbing}
 use Rattle.hub_record.proofs.shape.shape.Goals as goal
 
-pub returns-then-n-gt-INPUT_LIMIT : goal.returns-then-n-gt-INPUT_LIMIT
+pub returns-in_err-refuse_unless : goal.returns-in_err-refuse_unless
 unfolding shape
-returns-then-n-gt-INPUT_LIMIT c = search rungs depth 12
+returns-in_err-refuse_unless c = rw (handed_on _ _ c.from_residual.ensures.1) (search climbing depth 12)
 
-pub returns-then-n-lt-HEAD : goal.returns-then-n-lt-HEAD
+pub returns-in_err-refuse_unless-2 : goal.returns-in_err-refuse_unless-2
 unfolding shape
-returns-then-n-lt-HEAD c = search rungs depth 12
+returns-in_err-refuse_unless-2 c = rw (handed_on _ _ c.from_residual-in_err-refuse_unless-2.ensures.1) (search climbing depth 12)
 
-pub returns-then-ad-gt-AD_LIMIT : goal.returns-then-ad-gt-AD_LIMIT
+pub returns-in_err-refuse_unless-3 : goal.returns-in_err-refuse_unless-3
 unfolding shape
-returns-then-ad-gt-AD_LIMIT c = search rungs depth 12
+returns-in_err-refuse_unless-3 c = rw (handed_on _ _ c.from_residual-in_err-refuse_unless-3.ensures.1) (search climbing depth 12)
 
-pub returns-then-not-tag_size : goal.returns-then-not-tag_size
+pub returns-in_err-refuse_unless-4 : goal.returns-in_err-refuse_unless-4
 unfolding shape
-returns-then-not-tag_size c = search rungs depth 12
+returns-in_err-refuse_unless-4 c = rw (handed_on _ _ c.from_residual-in_err-refuse_unless-4.ensures.1) (search climbing depth 12)
 
-pub returns-then-least-n : goal.returns-then-least-n
+pub returns-in_err-refuse_unless-5 : goal.returns-in_err-refuse_unless-5
 unfolding shape
-returns-then-least-n c = search rungs depth 12
-
-pub returns-then-n-least : goal.returns-then-n-least
-unfolding shape
-returns-then-n-least c = search rungs depth 12
+returns-in_err-refuse_unless-5 c = rw (handed_on _ _ c.from_residual-in_err-refuse_unless-5.ensures.1) (search climbing depth 12)
 
 pub returns : goal.returns
 unfolding shape
-returns c = search rungs depth 12
+returns c = search climbing depth 12

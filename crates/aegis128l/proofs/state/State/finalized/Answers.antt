@@ -3,4 +3,4 @@ use Rattle.aegis128l.proofs.Tags.{finished}
 use Rattle.aegis128l.proofs.state.State.finalized.Goals as goal
 
 pub returns : goal.returns
-returns c = finished _ _ _ c.length_block.ensures c.xor-x.ensures c.updates.ensures
+returns c = finished _ _ _ c.length_block.ensures c.bitxor-x.ensures c.updates.ensures

@@ -4,5 +4,5 @@ use Rattle.aegis128l.proofs.state.State.keystream.Goals as goal
 
 pub returns : goal.returns
 returns c =
-    keyed _ c.xor.ensures c.and.ensures c.xor-a.ensures c.xor-2.ensures c.and-2.ensures c.xor-b.ensures
+    keyed _ c.bitxor.ensures c.bitand.ensures c.bitxor-a.ensures c.bitxor-2.ensures c.bitand-2.ensures c.bitxor-b.ensures
     c.join.ensures

@@ -5,10 +5,10 @@ use Rattle.aegis128l.proofs.state.State.tag.Goals as goal
 
 pub returns-then-out-eq16 : goal.returns-then-out-eq16
 returns-then-out-eq16 c =
-    written _ _ _ _ true _ c.requires.out_value c.finalized-s.ensures (eq-eqb _ _ c.if-out-eq16.true) c.tag16-x.ensures
+    written _ _ _ _ true _ c.requires c.finalized-s.ensures (eq-eqb _ _ c.if-out-eq16.true) c.tag16.ensures
     c.put.ensures
 
-pub returns : goal.returns
-returns c =
-    written _ _ _ _ false _ c.requires.out_value c.finalized-s.ensures (ne_eqb _ _ c.if-out-eq16.false) c.tag32-x.ensures
-    c.put-2.ensures
+pub returns-else-out-eq16 : goal.returns-else-out-eq16
+returns-else-out-eq16 c =
+    written _ _ _ _ false _ c.requires c.finalized-s.ensures (ne_eqb _ _ c.if-out-eq16.false) c.tag32.ensures
+    c.put-else-out-eq16.ensures

@@ -7,4 +7,4 @@ pub loop-i-preserved : goal.loop-i-preserved
 loop-i-preserved c = turned c.loop-i.invariant _ (omega arith) c.round.ensures
 
 pub returns : goal.returns
-returns c = updated c.loop-i.invariant _ _ (omega arith) _ _ c.xor.ensures c.xor-2.ensures
+returns c = updated c.loop-i.invariant _ _ (omega arith) _ _ c.bitxor.ensures c.bitxor-2.ensures

@@ -4,12 +4,12 @@ use Rattle.aegis128l.specs.View.{state_of}
 use Rattle.aegis128l.proofs.Steps.{updates_turn, updates-end}
 use Rattle.aegis128l.proofs.state.State.updates.Goals as goal
 
-pub loop-i-preserved : goal.loop-i-preserved
-loop-i-preserved c =
-    let L = c.loop-i in
-    (omega arith, updates_turn _ L.i _ (state_of L.s) _ _ _ (omega arith) L.invariant.1 c.update-s.ensures)
+pub loop-preserved : goal.loop-preserved
+loop-preserved c =
+    let L = c.loop in
+    updates_turn _ L.counter _ (state_of L.s) _ _ _ (omega arith) L.invariant c.update-s.ensures
 
 pub returns : goal.returns
 returns c =
-    let L = c.loop-i in
-    updates-end _ L.i _ (state_of L.s) _ _ (omega arith) L.invariant.1
+    let L = c.loop in
+    updates-end _ L.counter _ (state_of L.s) _ _ (omega arith) L.invariant

@@ -1,0 +1,2 @@
+-- What a session of each kind comes to.
+pub mod Due
