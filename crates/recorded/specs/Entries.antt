@@ -41,4 +41,4 @@ pub record Marked (l : List ℕ) (m : Mark) : Type 0 where
 -- what a list begins with
 abbrev pub Begins : List ℕ → Entry → Type 0
 Begins l (entry.Mark m) = Marked l m
-Begins l (entry.Record kind r end) = Taken l kind r end
+Begins l (entry.Record kind s end) = Taken l kind s.parts end

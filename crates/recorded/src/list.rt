@@ -30,9 +30,15 @@ pub struct Record<'a> {
     pub msg: &'a [u8],
     pub ct: &'a [u8],
     pub tag: &'a [u8],
-    pub ghost msg_short: { length msg.now ≤ 512 },
-    pub ghost ct_short: { length ct.now ≤ 512 },
-    pub ghost tag_short: { length tag.now ≤ 32 },
+}
+
+// A record none of whose parts is longer than the list's are.
+#[derive(Clone, Copy)]
+pub struct Short<'a> {
+    pub parts: Record<'a>,
+    pub ghost msg_short: { length parts.msg.now ≤ 512 },
+    pub ghost ct_short: { length parts.ct.now ≤ 512 },
+    pub ghost tag_short: { length parts.tag.now ≤ 32 },
 }
 
 // What stands behind the last record of a section: the published vectors end with a separator, the recorded answers with the end.
@@ -46,7 +52,7 @@ pub enum Mark {
 #[derive(Clone, Copy)]
 pub enum Entry<'a> {
     Mark(Mark),
-    Record(Kind, Record<'a>, usize),
+    Record(Kind, Short<'a>, usize),
 }
 
 // The byte at place i, or 0 past the end.
@@ -78,14 +84,14 @@ impl Kind {
     }
 }
 
-impl<'a> Record<'a> {
+impl<'a> Short<'a> {
     ghost use Rattle.recorded.specs.Entries.{Taken, code};
 
     // The record of a kind at the start of a list, and where the next one starts; none where it does not stand whole there, or has a part
     // longer than records have.
-    fn first(list: &'a [u8], kind: Kind) -> Option<(Record<'a>, usize)>
+    fn first(list: &'a [u8], kind: Kind) -> Option<(Short<'a>, usize)>
         requires { spec.kind_of list.now ≡ code kind }
-        ensures { IfSome result (λ p. Taken list.now kind p.0 p.1) }
+        ensures { IfSome result (λ p. Taken list.now kind p.0.parts p.1) }
     {
         let (msg_len, ct_len) = kind.lengths(number_at(list, 36));
         let tag_len = byte_at(list, 1) as usize;
@@ -96,7 +102,7 @@ impl<'a> Record<'a> {
         let ct = msg + msg_len;
         let tag = ct + ct_len;
         let end = tag + tag_len;
-        let record = Record {
+        let parts = Record {
             key: list.get(2..18)?,
             nonce: list.get(18..34)?,
             ad: list.get(HEAD..msg)?,
@@ -104,7 +110,7 @@ impl<'a> Record<'a> {
             ct: list.get(ct..tag)?,
             tag: list.get(tag..end)?,
         };
-        Some((record, end))
+        Some((Short { parts }, end))
     }
 }
 
@@ -124,7 +130,7 @@ impl<'a> Entry<'a> {
             5 => return Some(Entry::Mark(Mark::Separator)),
             _ => return None,
         };
-        let (record, end) = Record::first(list, kind)?;
-        Some(Entry::Record(kind, record, end))
+        let (short, end) = Short::first(list, kind)?;
+        Some(Entry::Record(kind, short, end))
     }
 }

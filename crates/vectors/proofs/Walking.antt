@@ -8,7 +8,7 @@ use lib.ListN.{length, drop, length-drop}
 use Rattle.std.specs.Prelude.{Option, Some, IfSome}
 use Rattle.std.specs.Option.{MatchOption}
 use Rattle.recorded.specs.declared.list.Kind.{Kind}
-use Rattle.recorded.specs.declared.list.Record.{Record}
+use Rattle.recorded.specs.declared.list.Short.{Short}
 use Rattle.recorded.specs.declared.list.Entry.{Entry}
 use Rattle.recorded.specs.declared.list.Entry.TheVariants as entry
 use Rattle.recorded.specs.Entries.{Begins, Taken}
@@ -16,8 +16,8 @@ use Rattle.vectors.specs.declared.replay.Section.{Section}
 use Rattle.vectors.specs.Walk.{Walked, step, Stepped}
 
 -- what a list begins with, where that is a record
-pub taken_of : {l : List ℕ} {e : Option Entry} {kind : Kind} {r : Record} {end : ℕ} → IfSome e (Begins l) → e ≡ Some (entry.Record kind r end)
-    → Taken l kind r end
+pub taken_of : {l : List ℕ} {e : Option Entry} {kind : Kind} {s : Short} {end : ℕ} → IfSome e (Begins l) → e ≡ Some (entry.Record kind s end)
+    → Taken l kind s.parts end
 taken_of {l = l} b is = subst (λ (e : Option Entry). IfSome e (Begins l)) is b
 
 -- what a step gives, where that is a section

@@ -4,12 +4,13 @@ ghost use Rattle.recorded.specs.Records.{IsSealed, IsOpened, IsRefused, IsMaced,
 ghost use Rattle.vectors.specs.Walk.{Holds};
 
 use cuttings::Cuttings;
-use recorded::list::{Kind, LONGEST, LONGEST_TAG, Record};
+use recorded::list::{Kind, LONGEST, LONGEST_TAG, Short};
 use recorded::oneshots;
 
-fn seal(record: &Record) -> Option<Cuttings>
-    ensures { OnSome result (IsSealed «record».now × IsOpened «record».now) }
+fn seal(short: &Short) -> Option<Cuttings>
+    ensures { OnSome result (IsSealed short.now.parts × IsOpened short.now.parts) }
 {
+    let record = &short.parts;
     let mut text = [0; LONGEST];
     let mut tag = [0; LONGEST_TAG];
     let made = &mut tag[..record.tag.len()];
@@ -27,9 +28,10 @@ fn seal(record: &Record) -> Option<Cuttings>
     (openings == sealings).then_some(sealings)
 }
 
-fn refused(record: &Record) -> Option<Cuttings>
-    ensures { OnSome result (IsRefused «record».now) }
+fn refused(short: &Short) -> Option<Cuttings>
+    ensures { OnSome result (IsRefused short.now.parts) }
 {
+    let record = &short.parts;
     let mut text = [0; LONGEST];
     let buf = &mut text[..record.ct.len()];
     oneshots::refuses(record, buf)?;
@@ -37,9 +39,10 @@ fn refused(record: &Record) -> Option<Cuttings>
     Some(Cuttings { count: 0 })
 }
 
-fn mac(record: &Record) -> Option<Cuttings>
-    ensures { OnSome result (IsMaced «record».now) }
+fn mac(short: &Short) -> Option<Cuttings>
+    ensures { OnSome result (IsMaced short.now.parts) }
 {
+    let record = &short.parts;
     let mut tag = [0; LONGEST_TAG];
     let mut bad_tag = [0; LONGEST_TAG];
     let made = &mut tag[..record.tag.len()];
@@ -52,9 +55,10 @@ fn mac(record: &Record) -> Option<Cuttings>
     cuttings::macing::cuttings(record, damaged, made)
 }
 
-fn stream(record: &Record) -> Option<Cuttings>
-    ensures { OnSome result (IsStreamed «record».now) }
+fn stream(short: &Short) -> Option<Cuttings>
+    ensures { OnSome result (IsStreamed short.now.parts) }
 {
+    let record = &short.parts;
     let mut text = [0; LONGEST];
     let buf = &mut text[..record.ct.len()];
     oneshots::streams(record, buf)?;
@@ -62,13 +66,13 @@ fn stream(record: &Record) -> Option<Cuttings>
     Some(Cuttings { count: 0 })
 }
 
-pub fn replayed(kind: Kind, record: &Record) -> Option<Cuttings>
-    ensures { OnSome result (Holds «record».now kind) }
+pub fn replayed(kind: Kind, short: &Short) -> Option<Cuttings>
+    ensures { OnSome result (Holds short.now.parts kind) }
 {
     match kind {
-        Kind::Seal => seal(record),
-        Kind::Refused => refused(record),
-        Kind::Mac => mac(record),
-        Kind::Stream => stream(record),
+        Kind::Seal => seal(short),
+        Kind::Refused => refused(short),
+        Kind::Mac => mac(short),
+        Kind::Stream => stream(short),
     }
 }

@@ -66,8 +66,8 @@ impl Section {
     {
         match Entry::first(rest) {
             Some(Entry::Mark(mark)) if mark == until => Ok(None),
-            Some(Entry::Record(kind, record, end)) => {
-                let Some(cuttings) = records::replayed(kind, &record) else {
+            Some(Entry::Record(kind, short, end)) => {
+                let Some(cuttings) = records::replayed(kind, &short) else {
                     return Err(self.stopped(Fault::Differs));
                 };
                 let mut tally = self.tally;

@@ -6,7 +6,7 @@ use Rattle.vectors.proofs.replay.Section.next.Goals as goal
 pub returns-in-Some-clause-step : goal.returns-in-Some-clause-step
 returns-in-Some-clause-step c = record {
   kind = c.in-Some-Record.kind;
-  parts = c.in-Some-Record.record;
+  parts = c.in-Some-Record.short.parts;
   end = c.in-Some-Record.end;
   cuttings = c.in-Some.cuttings.count;
   taken = search (rules, taken_of);
