@@ -1,6 +1,7 @@
 #!/bin/sh
 # Holds the documents to what is there: each theorem that docs/THEOREMS.md names is a public name of the file that it links, each edit that
-# docs/PROMISES.md names is there and each edit is named, the definitions have as many lines as docs/THEOREMS.md says, and each link leads to a file.
+# docs/PROMISES.md names is there and each edit is named, the definitions have as many lines as docs/THEOREMS.md says, the functions that ask something of
+# their callers are those of the table in docs/DECISIONS.md, and each link leads to a file.
 # And the other way round: no law, definition, function or import is there that nothing uses and docs/THEOREMS.md does not name (uses.awk).
 set -eu
 cd "$(dirname "$0")/.."
@@ -66,6 +67,39 @@ wrong=$(
         there=$(echo "$text" | grep -cv '^ *--\|^ *use \|^ *$')
         [ "$there" -eq "$bare" ] || echo "docs/THEOREMS.md: $files has $there lines without comments, not $bare"
     done
+
+    # functions with a `requires`: in the table the names in backquotes of a row's second cell belong to the crate of the first
+    find crates -name out -prune -o -path '*/src/*.rt' -print | LC_ALL=C sort | LC_ALL=C xargs awk '
+    FILENAME == "docs/DECISIONS.md" {
+        if (/^## /)
+            within = /`requires`/
+        if (within && /^[|] [a-z]/ && split($0, cell, "|") > 3) {
+            crate = cell[2]
+            gsub(/ /, "", crate)
+            while (match(cell[3], /`[^`]*`/)) {
+                name = substr(cell[3], RSTART + 1, RLENGTH - 2)
+                sub(/.*::/, "", name)
+                listed[crate " " name] = 1
+                cell[3] = substr(cell[3], RSTART + RLENGTH)
+            }
+        }
+        next
+    }
+    /^ *\/\// { next }
+    match($0, /(^| )fn [a-z0-9_]+/) {
+        name = substr($0, RSTART, RLENGTH)
+        sub(/.*fn /, "", name)
+    }
+    /^ *requires / {
+        split(FILENAME, folder, "/")
+        asks[folder[2] " " name] = 1
+    }
+    END {
+        for (f in asks)
+            if (!(f in listed)) print "docs/DECISIONS.md does not list a function with a requires: " f
+        for (f in listed)
+            if (!(f in asks)) print "docs/DECISIONS.md: no function with a requires: " f
+    }' docs/DECISIONS.md
 
     # what nothing uses
     find crates -name out -prune -o \( -name '*.antt' -o -name '*.rt' \) -print | LC_ALL=C sort | LC_ALL=C xargs awk -f scripts/uses.awk docs/THEOREMS.md
