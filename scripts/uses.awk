@@ -137,8 +137,12 @@ FNR == 1 { pending = ""; fields = public_head = spelt_out = -1 }
         if (n > 1 && ((FILENAME, parts[1]) in module)) cited[module[FILENAME, parts[1]], parts[2]] = 1
         # in code a name may stand in Option<..>, in [..; ..] or behind a ? too
         if (FILENAME ~ /[.]rt$/) {
+            defined = i == at && ((FILENAME, name, indent) in defines)
             n = split(words[i], parts, /[][.<>|?*]|::/)
-            for (p = 1; p <= n; p++) has[FILENAME, parts[p]] = calls[parts[p]] = 1
+            for (p = 1; p <= n; p++) {
+                has[FILENAME, parts[p]] = 1
+                if (!defined) calls[parts[p]] = 1
+            }
         }
     }
 }

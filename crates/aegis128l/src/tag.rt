@@ -79,7 +79,8 @@ impl State {
     {
         let s = self.finalized(lengths, t);
         if out.len() == 16 {
-            lent::put(&s.tag16(), out);
+            let tag = s.tag16();
+            lent::put(&tag, out);
         } else {
             lent::put(&s.tag32(), out);
         }

@@ -4,7 +4,7 @@ ghost use Rattle.aes.specs.Field.{sbox, Table};
 
 #[derive(Clone, Copy)]
 pub struct Sbox {
-    pub(crate) entries: [u8; 256],
+    pub entries: [u8; 256],
     pub ghost is_table: { Table entries },
 }
 

@@ -1,34 +1,21 @@
--- The size of a tag, the fill of a machine that was just started, or fed, and sizes that are refused neither in place.
+-- The size of a tag, and the fill of a machine that was just started, or fed.
 -- Assumes nothing.
 use Prim.Native.Nat.{ℕ, ◌≤◌, ◌<◌}
 use mathlib.Core.Path.{◌≡◌}
 use mathlib.Core.Bool.{true}
 use mathlib.Core.Logic.{⊎_elim}
 use mathlib.Core.List.{List}
-use native.Mathlib.Nat.{le_refl}
 use native.Mathlib.Omega.{arith}
 use Rattle.machine.specs.Machine.{Machine, Core, Mode, start, after}
 use Rattle.machine.proofs.Kept.{start_kept, after_kept}
 use Rattle.answers.specs.Answers.{tag_size, limit}
-use Rattle.answers.proofs.Answers.{tag_sizes, OneShotOk}
+use Rattle.answers.proofs.Answers.{tag_sizes}
 
 size_fits : (n : ℕ) → tag_size n ≡ true → n ≤ 32
 size_fits n h = ⊎_elim (λ e. omega (arith, e)) (λ e. omega (arith, e)) (tag_sizes n h)
 
 pub size_limit : (n : ℕ) → tag_size n ≡ true → n ≤ limit
 size_limit n h = omega (arith, size_fits n h)
-
--- a message that is not refused with more room is not refused in place
-pub in_place : {size tag key nonce ad msg room : ℕ} → OneShotOk size tag key nonce ad msg room → OneShotOk size tag key nonce ad msg msg
-in_place {size} {tag} {key} {nonce} {ad} {msg} {room} ok =
-    record {
-      tag_size_ok = ok.tag_size_ok;
-      key_size = ok.key_size;
-      nonce_size = ok.nonce_size;
-      ad_fits = ok.ad_fits;
-      msg_fits = ok.msg_fits;
-      in_room = le_refl msg;
-    }
 
 -- the fill of a machine that was just started, or fed
 module _ {S : Type 0} (K : Machine S) where

@@ -65,7 +65,7 @@ module _ {S : Type 0} (C : Cipher S) (M : Mac S) where
   macs-none s₀ [] none es ee = ee ∙ ap M.empty es
   macs-none s₀ (x ∷ xs) none es ee = absurd (suc-ne-zero (length xs) none)
 
-  pub macs-tag : (key nonce data' : List ℕ) {e : S} {t : List ℕ} (n : ℕ) → e ≡ mac_state C M (init key nonce) data'
-      → t ≡ tag e (length data') n n → t ≡ mac_tag C M key nonce data' n
+  pub macs-tag : (key nonce data' : List ℕ) {e : S} {first second : ℕ} {t : List ℕ} (n : ℕ) → e ≡ mac_state C M (init key nonce) data'
+      → first ≡ length data' → second ≡ n → t ≡ tag e first second n → t ≡ mac_tag C M key nonce data' n
   unfolding mac_tag
-  macs-tag key nonce data' n ee et = et ∙ ap (λ (z : S). tag z (length data') n n) ee
+  macs-tag key nonce data' n ee ef es et = et ∙ (λ i. tag (ee i) (ef i) (es i) n)

@@ -2,10 +2,10 @@
 // the tag buffer. A call asks nothing of its caller; one equation says what it answers and what every lent buffer holds.
 #![tactic(auto)]
 
-ghost use Rattle.std.specs.Prelude.{◌≡◌, true, length};
+ghost use Rattle.std.specs.Prelude.{◌≡◌, true, ◌≤◌, length};
 ghost use Rattle.machine.specs.Machine as machine;
 ghost use Rattle.lent.specs.Lent.{same};
-ghost use Rattle.answers.specs.Answers.{unless, one_shot, tag_size};
+ghost use Rattle.answers.specs.Answers.{unless, one_shot, tag_size, limit};
 ghost use Rattle.answers.specs.Refusals.{answer_of};
 ghost use Rattle.promises.specs.Texts as promise;
 ghost use Rattle.promises.specs.Met.{SealMet, SealInPlaceMet, OpenMet, OpenInPlaceMet};
@@ -62,6 +62,39 @@ fn verified(state: State, lengths: Lengths, tag: &[u8], t: &Sbox) -> Result<(), 
     }
 }
 
+// A message, in place, and its tag, once nothing is refused.
+fn sealed(key: &[u8], nonce: &[u8], ad: &[u8], buf: &mut [u8], tag: &mut [u8])
+    requires within_limit { (length ad.now ≤ limit) × (length buf.old ≤ limit) }
+    requires tag_allowed { tag_size (length tag.old) ≡ true }
+    ensures { (buf.new ≡ promise.ciphertext aegis128l key.now nonce.now ad.now buf.old)
+        × (tag.new ≡ promise.seal_tag aegis128l key.now nonce.now ad.now buf.old (length tag.old)) }
+{
+    let lengths = Lengths {
+        first: ad.len() as u64,
+        second: buf.len() as u64,
+    };
+    let t = aes::sbox();
+    let end = transformed(key, nonce, ad, Mode::Encrypt, buf, &t);
+    end.tag(lengths, tag, &t);
+}
+
+// A ciphertext, in place, and the verdict on its tag, once nothing is refused.
+fn opened(key: &[u8], nonce: &[u8], ad: &[u8], tag: &[u8], buf: &mut [u8]) -> Result<(), Refusal>
+    requires within_limit { (length ad.now ≤ limit) × (length buf.old ≤ limit) }
+    requires tag_allowed { tag_size (length tag.now) ≡ true }
+    ensures { (buf.new ≡ promise.plaintext aegis128l key.now nonce.now ad.now buf.old)
+        × (answer_of result
+        ≡ unless 7 (same tag.now (promise.open_tag aegis128l key.now nonce.now ad.now buf.old (length tag.now))) 0) }
+{
+    let lengths = Lengths {
+        first: ad.len() as u64,
+        second: buf.len() as u64,
+    };
+    let t = aes::sbox();
+    let end = transformed(key, nonce, ad, Mode::Decrypt, buf, &t);
+    verified(end, lengths, tag, &t)
+}
+
 pub fn aegis128l_seal(
     key: &[u8],
     nonce: &[u8],
@@ -78,7 +111,8 @@ pub fn aegis128l_seal(
         return Err(refusal);
     }
     lent::put(msg, out);
-    aegis128l_seal_in_place(key, nonce, ad, &mut out[..n], tag)
+    sealed(key, nonce, ad, &mut out[..n], tag);
+    Ok(())
 }
 
 pub fn aegis128l_seal_in_place(
@@ -95,13 +129,7 @@ pub fn aegis128l_seal_in_place(
     if let Err(refusal) = admitted(key, nonce, ad, tag.len(), n, n) {
         return Err(refusal);
     }
-    let t = aes::sbox();
-    let end = transformed(key, nonce, ad, Mode::Encrypt, buf, &t);
-    let lengths = Lengths {
-        first: ad.len() as u64,
-        second: n as u64,
-    };
-    end.tag(lengths, tag, &t);
+    sealed(key, nonce, ad, buf, tag);
     Ok(())
 }
 
@@ -121,7 +149,11 @@ pub fn aegis128l_open(
         return Err(refusal);
     }
     lent::put(ct, out);
-    aegis128l_open_in_place(key, nonce, ad, &mut out[..n], tag)
+    let Err(refusal) = opened(key, nonce, ad, tag, &mut out[..n]) else {
+        return Ok(());
+    };
+    lent::wipe(out, n, 0xaa);
+    Err(refusal)
 }
 
 pub fn aegis128l_open_in_place(
@@ -138,15 +170,9 @@ pub fn aegis128l_open_in_place(
     if let Err(refusal) = admitted(key, nonce, ad, tag.len(), n, n) {
         return Err(refusal);
     }
-    let t = aes::sbox();
-    let end = transformed(key, nonce, ad, Mode::Decrypt, buf, &t);
-    let lengths = Lengths {
-        first: ad.len() as u64,
-        second: n as u64,
+    let Err(refusal) = opened(key, nonce, ad, tag, buf) else {
+        return Ok(());
     };
-    let verdict = verified(end, lengths, tag, &t);
-    if let Err(_) = verdict {
-        lent::wipe(buf, n, 0xaa);
-    }
-    verdict
+    lent::wipe(buf, n, 0xaa);
+    Err(refusal)
 }

@@ -1,5 +1,6 @@
 // The MAC of document 01: the data is absorbed as associated data is, and empty data absorbs one block of zeros.
-ghost use Rattle.std.specs.Prelude.{◌≡◌};
+ghost use Rattle.std.specs.Prelude.{◌≡◌, ◌≤◌};
+ghost use Rattle.answers.specs.Answers.{limit};
 ghost use Rattle.answers.specs.Refusals.{answer_of};
 ghost use Rattle.promises.specs.Texts as promise;
 ghost use Rattle.promises.specs.Met.{MacMet, MacCheckMet};
@@ -24,6 +25,17 @@ fn mac_state(key: &[u8], nonce: &[u8], data: &[u8], t: &Sbox) -> State
     aegis128l_core::absorb_ad(s, data, t)
 }
 
+// What the length block of a MAC is made of: the lengths of its data and of its tag.
+fn mac_lengths(of_data: usize, of_tag: usize) -> Lengths
+    requires { (of_data ≤ limit) × (of_tag ≤ limit) }
+    ensures { (result.first ≡ of_data) × (result.second ≡ of_tag) }
+{
+    Lengths {
+        first: of_data as u64,
+        second: of_tag as u64,
+    }
+}
+
 pub fn aegis128l_mac(key: &[u8], nonce: &[u8], data: &[u8], tag: &mut [u8]) -> Result<(), Refusal>
     ensures { MacMet aegis128l mac_of_aegis128l key.now nonce.now «data».now tag.old
         (answer_of result) tag.new }
@@ -33,11 +45,7 @@ pub fn aegis128l_mac(key: &[u8], nonce: &[u8], data: &[u8], tag: &mut [u8]) -> R
     }
     let t = aes::sbox();
     let end = mac_state(key, nonce, data, &t);
-    let lengths = Lengths {
-        first: data.len() as u64,
-        second: tag.len() as u64,
-    };
-    end.tag(lengths, tag, &t);
+    end.tag(mac_lengths(data.len(), tag.len()), tag, &t);
     Ok(())
 }
 
@@ -50,9 +58,5 @@ pub fn aegis128l_mac_check(key: &[u8], nonce: &[u8], data: &[u8], tag: &[u8]) ->
     }
     let t = aes::sbox();
     let end = mac_state(key, nonce, data, &t);
-    let lengths = Lengths {
-        first: data.len() as u64,
-        second: tag.len() as u64,
-    };
-    crate::verified(end, lengths, tag, &t)
+    crate::verified(end, mac_lengths(data.len(), tag.len()), tag, &t)
 }

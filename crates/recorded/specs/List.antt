@@ -2,8 +2,9 @@
 -- (2), message length (2), AD, message, ciphertext, tag. A MAC has no ciphertext; a stream has no message, and its keystream stands in the
 -- ciphertext's place.
 -- Assumes nothing.
-use Rattle.std.specs.Prelude.{ℕ, ◌+◌, ◌*◌, cond, List, eqb, get_or}
+use Rattle.std.specs.Prelude.{ℕ, ◌+◌, ◌*◌, ◌≡◌, cond, List, eqb, get_or}
 use Rattle.std.specs.List.{between}
+use Rattle.recorded.specs.declared.list.Layout.{Layout}
 
 abbrev pub number_at : ℕ → List ℕ → ℕ
 number_at i l = get_or l i 0 + 256 * get_or l (i + 1) 0
@@ -27,6 +28,13 @@ tag_place l = ct_place l + unless (kind_of l) 3 (number_at 36 l)
 
 abbrev pub end_place : List ℕ → ℕ
 end_place l = tag_place l + get_or l 1 0
+
+-- a layout is the one that a list's start has
+pub record LaidOut (l : List ℕ) (r : Layout) : Type 0 where
+  pub msg_is : r.msg ≡ msg_place l
+  pub ct_is : r.ct ≡ ct_place l
+  pub tag_is : r.tag ≡ tag_place l
+  pub end_is : r.end ≡ end_place l
 
 abbrev pub key_in : List ℕ → List ℕ
 key_in l = between 2 18 l

@@ -5,7 +5,7 @@ ghost use Rattle.std.specs.Prelude.{◌≡◌, ◌≤◌, ◌<◌, length, get_o
 ghost use Rattle.recorded.specs.List as spec;
 
 // What stands before the AD.
-const HEAD: usize = 38;
+pub const HEAD: usize = 38;
 
 // The most that a record's message has, and its tag.
 pub const LONGEST: usize = 512;
@@ -15,10 +15,19 @@ pub const LONGEST_TAG: usize = 32;
 // What a record was made by: sealing, an opening that refused the tag, a MAC, or a stream.
 #[derive(Clone, Copy, PartialEq, Eq)]
 pub enum Kind {
-    Seal,
-    Refused,
-    Mac,
-    Stream,
+    Seal = 1,
+    Refused = 2,
+    Mac = 3,
+    Stream = 4,
+}
+
+// Where the parts of a record start, and where it ends.
+#[derive(Clone, Copy)]
+pub struct Layout {
+    pub msg: usize,
+    pub ct: usize,
+    pub tag: usize,
+    pub end: usize,
 }
 
 // The parts of a record, as they stand in the list.
@@ -56,7 +65,7 @@ pub enum Entry<'a> {
 }
 
 // The byte at place i, or 0 past the end.
-fn byte_at(list: &[u8], i: usize) -> u8
+pub fn byte_at(list: &[u8], i: usize) -> u8
     ensures { result ≡ get_or list.now i 0 }
 {
     list.get(i).copied().unwrap_or(0)
@@ -69,19 +78,24 @@ fn number_at(list: &[u8], i: usize) -> usize
     u16::from_le_bytes([byte_at(list, i), byte_at(list, i + 1)]) as usize
 }
 
-impl Kind {
-    ghost use Rattle.recorded.specs.Entries.{code};
+// A part of n bytes, which records of one kind leave out.
+fn unless(kind: u8, without: u8, n: usize) -> usize
+    ensures { (result ≡ spec.unless kind without n) × (result ≤ n) }
+{
+    if kind == without { 0 } else { n }
+}
 
-    // How long message and ciphertext are, where the list gives n.
-    fn lengths(self, n: usize) -> (usize, usize)
-        ensures { (result.0 ≡ spec.unless (code self) 4 n) × (result.1 ≡ spec.unless (code self) 3 n) }
-    {
-        match self {
-            Kind::Stream => (0, n),
-            Kind::Mac => (n, 0),
-            Kind::Seal | Kind::Refused => (n, n),
-        }
-    }
+// Of the record at the start of a list, whether or not it stands whole there.
+pub fn laid_out(list: &[u8]) -> Layout
+    ensures { spec.LaidOut list.now result }
+{
+    let kind = byte_at(list, 0);
+    let n = number_at(list, 36);
+    let msg = HEAD + number_at(list, 34);
+    let ct = msg + unless(kind, Kind::Stream as u8, n);
+    let tag = ct + unless(kind, Kind::Mac as u8, n);
+    let end = tag + byte_at(list, 1) as usize;
+    Layout { msg, ct, tag, end }
 }
 
 impl<'a> Short<'a> {
@@ -93,15 +107,10 @@ impl<'a> Short<'a> {
         requires { spec.kind_of list.now ≡ code kind }
         ensures { IfSome result (λ p. Taken list.now kind p.0.parts p.1) }
     {
-        let (msg_len, ct_len) = kind.lengths(number_at(list, 36));
-        let tag_len = byte_at(list, 1) as usize;
-        if msg_len > LONGEST || ct_len > LONGEST || tag_len > LONGEST_TAG {
+        let Layout { msg, ct, tag, end } = laid_out(list);
+        if ct - msg > LONGEST || tag - ct > LONGEST || end - tag > LONGEST_TAG {
             return None;
         }
-        let msg = HEAD + number_at(list, 34);
-        let ct = msg + msg_len;
-        let tag = ct + ct_len;
-        let end = tag + tag_len;
         let parts = Record {
             key: list.get(2..18)?,
             nonce: list.get(18..34)?,

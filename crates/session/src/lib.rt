@@ -2,7 +2,7 @@
 // `session_pieces` and `session_finishes` what goes on with it. Crate `thin` has the form in which the caller lends it.
 #![tactic(auto)]
 
-ghost use Rattle.std.specs.Prelude.{◌≡◌, true, eqb, Err};
+ghost use Rattle.std.specs.Prelude.{◌≡◌, true, eqb, Err, ⊤};
 ghost use Rattle.promises.specs.Session as promise;
 ghost use Rattle.aegis128l.specs.Cipher.{aegis128l};
 ghost use Rattle.aegis128l_core.specs.View.{core_of};
@@ -13,6 +13,7 @@ use aegis128l_core::Core;
 use aes::AesBlock;
 use answers::Refusal;
 use answers::length::MessageLength;
+use std::alloc::AllocError;
 
 pub mod starts;
 
@@ -47,6 +48,19 @@ pub struct Handed<T> {
     pub outcome: Result<T, Refusal>,
     pub session: Session,
 }
+
+// By hand: what derive(Clone) writes calls the library's clone of a Result, which no crate of the archive may.
+impl<T: Copy> Clone for Handed<T> {
+    ghost is_clone = { λ x y. y ≡ x };
+
+    ghost is_infallible = { λ _. ⊤ };
+
+    fn clone(&self) -> Result<Handed<T>, AllocError> {
+        Ok(*self)
+    }
+}
+
+impl<T: Copy> Copy for Handed<T> {}
 
 // What C is told of the finish of an opening: the answer, and how many bytes it releases.
 #[repr(C)]
@@ -103,12 +117,19 @@ impl Session {
             && self.opening_fits()
     }
 
+    // Well formed, and with this mark, whether a kind has it or none.
+    pub fn live(self, mark: usize) -> bool
+        ensures { result ≡ promise.live 32 mark (session_of self) }
+    {
+        let marked = self.mark == mark;
+        marked && self.is_well_formed()
+    }
+
     // Well formed, and of this kind.
-    #[tactic(auto, unfolding(promises::specs::Session::live))]
     pub fn is_live(self, kind: Kind) -> bool
         ensures { result ≡ promise.live 32 (mark_of kind) (session_of self) }
     {
-        self.is_for(kind) && self.is_well_formed()
+        self.live(kind as usize)
     }
 
     // What a refused call hands back: the session as it was.

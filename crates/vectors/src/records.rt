@@ -1,5 +1,5 @@
 // A record of each kind, replayed. None says that it differs from what is recorded; else how many cuttings there were beside the one-shots.
-ghost use Rattle.std.specs.Prelude.{OnSome};
+ghost use Rattle.std.specs.Prelude.{◌≡◌, length, OnSome};
 ghost use Rattle.recorded.specs.Records.{IsSealed, IsOpened, IsRefused, IsMaced, IsStreamed};
 ghost use Rattle.vectors.specs.Walk.{Holds};
 
@@ -7,24 +7,51 @@ use cuttings::Cuttings;
 use recorded::list::{Kind, LONGEST, LONGEST_TAG, Short};
 use recorded::oneshots;
 
+// Each call gets buffers of zeros: one that still held the tag of the call before would hide a call that writes none.
+fn text_room() -> [u8; LONGEST]
+    ensures { length result ≡ 512 }
+{
+    [0; LONGEST]
+}
+
+fn tag_room() -> [u8; LONGEST_TAG]
+    ensures { length result ≡ 32 }
+{
+    [0; LONGEST_TAG]
+}
+
 fn seal(short: &Short) -> Option<Cuttings>
     ensures { OnSome result (IsSealed short.now.parts × IsOpened short.now.parts) }
 {
     let record = &short.parts;
-    let mut text = [0; LONGEST];
-    let mut tag = [0; LONGEST_TAG];
-    let made = &mut tag[..record.tag.len()];
-    let buf = &mut text[..record.msg.len()];
-    oneshots::seals(record, buf, made)?;
-    oneshots::seals_in_place(record, buf, made)?;
-    let plain = &mut text[..record.ct.len()];
-    oneshots::opens(record, plain)?;
-    oneshots::opens_in_place(record, plain)?;
-    if record.msg.len() > cuttings::LONGEST {
+    let msg_len = record.msg.len();
+    let ct_len = record.ct.len();
+    let tag_len = record.tag.len();
+    oneshots::seals(
+        record,
+        &mut text_room()[..msg_len],
+        &mut tag_room()[..tag_len],
+    )?;
+    oneshots::seals_in_place(
+        record,
+        &mut text_room()[..msg_len],
+        &mut tag_room()[..tag_len],
+    )?;
+    oneshots::opens(record, &mut text_room()[..ct_len])?;
+    oneshots::opens_in_place(record, &mut text_room()[..ct_len])?;
+    if msg_len > cuttings::LONGEST {
         return Some(Cuttings { count: 0 });
     }
-    let sealings = cuttings::sealing::cuttings(record, &mut text[..record.msg.len()], made)?;
-    let openings = cuttings::opening::cuttings(record, made, &mut text[..record.ct.len()])?;
+    let sealings = cuttings::sealing::cuttings(
+        record,
+        &mut text_room()[..msg_len],
+        &mut tag_room()[..tag_len],
+    )?;
+    let openings = cuttings::opening::cuttings(
+        record,
+        &mut tag_room()[..tag_len],
+        &mut text_room()[..ct_len],
+    )?;
     (openings == sealings).then_some(sealings)
 }
 
@@ -32,10 +59,9 @@ fn refused(short: &Short) -> Option<Cuttings>
     ensures { OnSome result (IsRefused short.now.parts) }
 {
     let record = &short.parts;
-    let mut text = [0; LONGEST];
-    let buf = &mut text[..record.ct.len()];
-    oneshots::refuses(record, buf)?;
-    oneshots::refuses_in_place(record, buf)?;
+    let ct_len = record.ct.len();
+    oneshots::refuses(record, &mut text_room()[..ct_len])?;
+    oneshots::refuses_in_place(record, &mut text_room()[..ct_len])?;
     Some(Cuttings { count: 0 })
 }
 
@@ -43,26 +69,26 @@ fn mac(short: &Short) -> Option<Cuttings>
     ensures { OnSome result (IsMaced short.now.parts) }
 {
     let record = &short.parts;
-    let mut tag = [0; LONGEST_TAG];
-    let mut bad_tag = [0; LONGEST_TAG];
-    let made = &mut tag[..record.tag.len()];
-    let damaged = &mut bad_tag[..record.tag.len()];
-    oneshots::macs(record, made)?;
-    oneshots::mac_refuses(record, damaged)?;
+    let tag_len = record.tag.len();
+    oneshots::macs(record, &mut tag_room()[..tag_len])?;
+    oneshots::mac_refuses(record, &mut tag_room()[..tag_len])?;
     if record.msg.len() > cuttings::LONGEST {
         return Some(Cuttings { count: 0 });
     }
-    cuttings::macing::cuttings(record, damaged, made)
+    cuttings::macing::cuttings(
+        record,
+        &mut tag_room()[..tag_len],
+        &mut tag_room()[..tag_len],
+    )
 }
 
 fn stream(short: &Short) -> Option<Cuttings>
     ensures { OnSome result (IsStreamed short.now.parts) }
 {
     let record = &short.parts;
-    let mut text = [0; LONGEST];
-    let buf = &mut text[..record.ct.len()];
-    oneshots::streams(record, buf)?;
-    oneshots::stream_cancels(record, buf)?;
+    let ct_len = record.ct.len();
+    oneshots::streams(record, &mut text_room()[..ct_len])?;
+    oneshots::stream_cancels(record, &mut text_room()[..ct_len])?;
     Some(Cuttings { count: 0 })
 }
 

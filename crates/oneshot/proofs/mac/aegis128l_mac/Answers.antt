@@ -1,5 +1,5 @@
 -- `aegis128l_mac` meets its contract: a refusal changes nothing; else the tag is written.
-use Rattle.std.proofs.Common.{sym}
+use Rattle.std.proofs.Common.{arith, length, sym}
 use Rattle.answers.proofs.Answers.{mac_ok}
 use Rattle.aegis128l.specs.Cipher.{aegis128l, mac_of_aegis128l}
 use Rattle.oneshot.proofs.Texts.{macs-tag}
@@ -10,10 +10,11 @@ use Rattle.oneshot.proofs.mac.aegis128l_mac.Goals as goal
 pub returns-in-Err : goal.returns-in-Err
 returns-in-Err c = mac_refuses aegis128l mac_of_aegis128l _ _ _ _ _ c.in-Err.ensures
 
-pub invariant_of-lengths : goal.invariant_of-lengths
-invariant_of-lengths c =
+pub mac_lengths-requires : goal.mac_lengths-requires
+mac_lengths-requires c =
     let ok = mac_ok (sym c.in_default.ensures) in
-    record { within_limit = (ok.msg_fits, size_limit _ ok.tag_size_ok) }
+    let of_tag = size_limit (length c.args.tag.now) ok.tag_size_ok in
+    (omega (arith, ok.msg_fits, of_tag), omega (arith, ok.msg_fits, of_tag))
 
 pub tag-requires : goal.tag-requires
 tag-requires c = (mac_ok (sym c.in_default.ensures)).tag_size_ok
@@ -21,4 +22,4 @@ tag-requires c = (mac_ok (sym c.in_default.ensures)).tag_size_ok
 pub returns : goal.returns
 returns c =
     macs_leaves aegis128l mac_of_aegis128l _ _ _ _ (mac_ok (sym c.in_default.ensures))
-    (macs-tag aegis128l mac_of_aegis128l _ _ _ _ c.mac_state-end.ensures c.tag.ensures)
+    (macs-tag aegis128l mac_of_aegis128l _ _ _ _ c.mac_state-end.ensures c.mac_lengths.ensures.0 c.mac_lengths.ensures.1 c.tag.ensures)

@@ -5,7 +5,7 @@ use Rattle.aegis128l.proofs.state.State.tag.Goals as goal
 
 pub returns-then-out-eq16 : goal.returns-then-out-eq16
 returns-then-out-eq16 c =
-    written _ _ _ _ true _ c.requires c.finalized-s.ensures (eq-eqb _ _ c.if-out-eq16.true) c.tag16.ensures
+    written _ _ _ _ true _ c.requires c.finalized-s.ensures (eq-eqb _ _ c.if-out-eq16.true) c.tag16-tag.ensures
     c.put.ensures
 
 pub returns-else-out-eq16 : goal.returns-else-out-eq16
